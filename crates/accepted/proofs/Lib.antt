@@ -1,0 +1,9 @@
+pub mod Passed
+pub mod Reached
+pub mod Tasks
+pub mod Moves
+pub mod Masks
+pub mod Records
+pub mod Accepted
+pub mod Prefix
+pub mod Alike

@@ -1,0 +1,2 @@
+pub mod TableE
+pub mod Paper

@@ -1,0 +1,118 @@
+-- "What a delivery does", and the numbers it gives back.
+use Prim.Native.Nat.{ℕ, _+_, _-_, _*_, _/_}
+use mathlib.Core.Bool.{Bool, cond, _&&_, not}
+use mathlib.Core.List.{List}
+use lib.Dec.{eqb, ltb, leb}
+use lib.ListN.{getD, set, length}
+use Rattle.laws.specs.Turns.{upTo}
+use Rattle.answers.specs.declared.Answer.{Answer}
+use Rattle.answers.specs.declared.Answer.the-variants.{Done, NoChannel, ChannelEmpty, LogFull, Unsound, Excluded}
+use Rattle.numbers.specs.Endpoints.{endpointOf}
+use Rattle.numbers.specs.declared.Endpoint.{Endpoint}
+use Rattle.numbers.specs.declared.Endpoint.the-variants.{Nobody, Task, Gate}
+use Rattle.table.specs.declared.Table.{Table}
+use Rattle.soundness.specs.Sound.{soundTable}
+use Rattle.channels.specs.Channels.{noRequest, empty1, popped3}
+use Rattle.channels.specs.declared.Request.{Request}
+use Rattle.state.specs.States.{taskOf, gateOf, upOf, acrossOf, downOf, withTask, withGate, withLogged, withUp, withAcross, withDown}
+use Rattle.state.specs.declared.State.{State}
+use Rattle.sound_state.specs.SoundState.{soundState}
+use Rattle.tasks.specs.Tasks.{atTask}
+use Rattle.gates.specs.Gates.{atGate}
+use Rattle.delivery.specs.declared.Delivered.{Delivered}
+use Rattle.tasks.specs.declared.Work as task
+use Rattle.gates.specs.declared.Work as gate
+
+-- what comes back, and the log's bytes then
+pub record Outcome : Type 0 where
+  pub state : State
+  pub answer : Answer
+  pub log : List ℕ
+
+abbrev pub result : Outcome → Delivered
+result o = record { state = o .state; answer = o .answer }
+
+abbrev pub withLog : List ℕ → Delivered → Outcome
+withLog log d = record { state = d .state; answer = d .answer; log = log }
+
+-- "state and log unchanged"
+abbrev pub refused : State → List ℕ → Answer → Outcome
+refused s log answer = record { state = s; answer = answer; log = log }
+
+-- "two bytes an entry (gate, vector)"
+abbrev pub entered : ℕ → Request → List ℕ → List ℕ
+entered at r log = set (set log (at * 2) (r .gate .0)) (at * 2 + 1) (r .vector)
+
+-- entry k of those written behind the first `at`
+abbrev pub writtenAt : ℕ → List Request → ℕ → List ℕ → List ℕ
+writtenAt at entries k log = entered (at + k) (getD entries k noRequest) log
+
+unfoldable pub written : ℕ → List Request → ℕ → List ℕ → List ℕ
+written at entries count log = upTo (writtenAt at entries) count log
+
+-- "its capacity is its length divided by two, rounded down"
+abbrev pub freeRoom : State → List ℕ → ℕ
+freeRoom s log = length log / 2 - s .logged
+
+-- A task's work on a delivery settled, where s is the state before and popped the state without the message.
+-- "12 .. is judged over the delivery's whole work as though the log had room; 10 is looked at only after that."
+abbrev pub settledAtTask : State → State → List ℕ → ℕ → task.Work → Outcome
+settledAtTask s popped log b w =
+    cond (not (w .ok)) (refused s log Excluded)
+    (cond (ltb (freeRoom s log) (w .fired)) (refused s log LogFull)
+    (record {
+      state = withLogged (withTask popped b (w .task)) (s .logged + w .fired);
+      answer = Done;
+      log = written (s .logged) (w .entries) (w .fired) log;
+    }))
+
+abbrev pub settledAtGate : State → State → ℕ → gate.Work → Delivered
+settledAtGate s popped g w =
+    cond (not (w .ok)) (record { state = s; answer = Excluded }) (record { state = withGate popped g (w .gate); answer = Done })
+
+-- "It takes the oldest message of the channel named." From task t to gate g; no entry is written there.
+unfoldable pub toGate : List ℕ → List ℕ → State → ℕ → ℕ → Delivered
+toGate vectors masks s t g =
+    cond (eqb (upOf (taskOf s t) g .count) 0) (record { state = s; answer = ChannelEmpty })
+    (settledAtGate s (withTask s t (withUp (taskOf s t) g (popped3 (upOf (taskOf s t) g)))) g
+    (atGate masks (getD vectors g 0) g t (gateOf s g) (upOf (taskOf s t) g .first)))
+
+-- From task a, or gate g, to task b.
+module _ (moves masks : List ℕ) (gates : ℕ) (s : State) (log : List ℕ) where
+  unfoldable pub toTask : ℕ → ℕ → Outcome
+  toTask a b =
+      cond (eqb (acrossOf (taskOf s a) b .count) 0) (refused s log ChannelEmpty)
+      (settledAtTask s (withTask s a (withAcross (taskOf s a) b empty1)) log b
+      (atTask moves gates b masks (taskOf s b) (acrossOf (taskOf s a) b .first)))
+
+  unfoldable pub fromGate : ℕ → ℕ → Outcome
+  fromGate g b =
+      cond (eqb (downOf (gateOf s g) b .count) 0) (refused s log ChannelEmpty)
+      (settledAtTask s (withGate s g (withDown (gateOf s g) b empty1)) log b
+      (atTask moves gates b masks (taskOf s b) (downOf (gateOf s g) b .first)))
+
+  -- 8: "endpoint absent, gate to gate, or from equals to"
+  abbrev pub between : List ℕ → Endpoint → Endpoint → Outcome
+  between vectors Nobody e = refused s log NoChannel
+  between vectors (Task a) Nobody = refused s log NoChannel
+  between vectors (Task a) (Task b) = cond (eqb (a .0) (b .0)) (refused s log NoChannel) (toTask (a .0) (b .0))
+  between vectors (Task t) (Gate g) = withLog log (toGate vectors masks s (t .0) (g .0))
+  between vectors (Gate g) Nobody = refused s log NoChannel
+  between vectors (Gate g) (Task b) = fromGate (g .0) (b .0)
+  between vectors (Gate g) (Gate h) = refused s log NoChannel
+
+-- 11: the table, the state, and the log count against the capacity of a log of n bytes
+unfoldable pub soundFor : Table → State → ℕ → Bool
+soundFor T s n =
+    soundTable T && (soundState (T .vectors) (T .masks) (T .tasks) (T .gates) (T .states) s && leb (s .logged) (n / 2))
+
+module _ (T : Table) (s : State) (log : List ℕ) where
+  abbrev pub sound : Bool
+  sound = soundFor T s (length log)
+
+  -- "Order for a delivery: 11, 8, 9, 12, 10."
+  unfoldable pub delivered : ℕ → ℕ → Outcome
+  delivered from to =
+      cond (not sound) (refused s log Unsound)
+      (between (T .moves) (T .masks) (T .gates) s log (T .vectors)
+      (endpointOf (T .tasks) (T .gates) from) (endpointOf (T .tasks) (T .gates) to))

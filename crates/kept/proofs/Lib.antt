@@ -1,0 +1,11 @@
+pub mod Channels
+pub mod Rules
+pub mod Sends
+pub mod Waiting
+pub mod Handling
+pub mod Dealing
+pub mod States
+pub mod Ends
+pub mod Log
+pub mod Kept
+pub mod Fresh

@@ -1,0 +1,3 @@
+// Nothing runs here. proofs/Kept.antt has that a delivery which is done keeps table, state and log sound; proofs/Ends.antt,
+// that one which is refused changes nothing; proofs/Log.antt, that only the bytes of the entries written change;
+// proofs/Fresh.antt, that the fresh state of a sound table is sound.

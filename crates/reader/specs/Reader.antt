@@ -1,0 +1,41 @@
+-- What comes back for a table file.
+use Prim.Native.Nat.{ℕ}
+use mathlib.Core.Bool.{cond, _||_}
+use mathlib.Core.List.{List}
+use lib.Dec.{eqb, ltb}
+use lib.ListN.{length}
+use Rattle.answers.specs.Answers.{isDone}
+use Rattle.answers.specs.declared.Answer.{Answer}
+use Rattle.answers.specs.declared.Answer.the-variants.{Done, Missing}
+use Rattle.format.specs.Format.{kindAt, headFault}
+use Rattle.format.specs.Walk.{walkAll}
+use Rattle.records.specs.Records.{recordAt}
+use Rattle.table.specs.Tables.{emptyTable}
+use Rattle.reader.specs.Rules.{Loading, loading, kindFault, fieldFault, withRecord, noneCame, afterRecord}
+use Rattle.reader.specs.declared.Loaded.{Loaded}
+
+abbrev pub orFields : Answer → Answer → Answer
+orFields head fields = cond (isDone head) fields head
+
+-- the first fault of the record at a place, after those before it
+unfoldable pub faultAt : List ℕ → ℕ → Loading → Answer
+faultAt file at l =
+    orFields (headFault file at (kindFault (l .table .tasks) (l .progress) (kindAt file at))) (fieldFault l (recordAt file at))
+
+-- what is read with the record at a place
+unfoldable pub withRecordAt : List ℕ → ℕ → Loading → Loading
+withRecordAt file at l = loading (withRecord (l .table) (recordAt file at)) (afterRecord (l .progress) (recordAt file at))
+
+-- "empty table, place"
+abbrev pub refusedOf : Answer → ℕ → Loaded
+refusedOf answer place = record { table = emptyTable; answer = answer; place = place }
+
+-- "At the end: tasks or system record missing (6)", and then the place is the file's length
+unfoldable pub endedOf : ℕ → Loading → Loaded
+endedOf n l =
+    cond (eqb (l .progress .kind) 0 || ltb (l .progress .came) (l .table .tasks))
+    (refusedOf Missing n)
+    (record { table = l .table; answer = Done; place = n })
+
+abbrev pub readOf : List ℕ → Loaded
+readOf file = walkAll file (faultAt file) (withRecordAt file) refusedOf (endedOf (length file)) (loading emptyTable noneCame)

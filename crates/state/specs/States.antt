@@ -1,0 +1,153 @@
+-- "The state": its parts, and the state with one part changed.
+use Prim.Native.Nat.{ℕ, _+_, _-_}
+use mathlib.Core.Bool.{cond}
+use mathlib.Core.List.{List, [], _∷_, _++_}
+use lib.Dec.{eqb, ltb}
+use lib.ListN.{getD, set, drop, replicate}
+use Rattle.channels.specs.Channels.{noRequest, empty1, empty3, popped3, put1, put3}
+use Rattle.channels.specs.declared.Request.{Request}
+use Rattle.channels.specs.declared.Message.{Message}
+use Rattle.channels.specs.declared.Channel1.{Channel1}
+use Rattle.channels.specs.declared.Channel3.{Channel3}
+use Rattle.state.specs.declared.Mode.{Mode}
+use Rattle.state.specs.declared.Mode.the-variants.{Free}
+use Rattle.state.specs.declared.Deal.the-variants.{Idle}
+use Rattle.state.specs.declared.Task.{Task}
+use Rattle.state.specs.declared.Gate.{Gate}
+use Rattle.state.specs.declared.State.{State}
+use Rattle.state.specs.declared.Link.{Link}
+use Rattle.state.specs.declared.Link.the-variants.{ToGate, FromGate, ToTask}
+use Rattle.state.specs.declared.Front.{Front}
+use Rattle.state.specs.declared.Front.the-variants.{Nothing, Oldest}
+use Rattle.state.specs.declared.PoppedTask.{PoppedTask}
+use Rattle.state.specs.declared.PoppedGate.{PoppedGate}
+use Rattle.state.specs.declared.Popped.{Popped}
+use Rattle.state.specs.declared.PutTask.{PutTask}
+use Rattle.state.specs.declared.PutGate.{PutGate}
+use Rattle.state.specs.declared.Put.{Put}
+
+-- "An empty task is at state 0, Free, nothing waiting; an empty gate is Idle, no offers. The empty state has all
+-- parties and channels empty and log count 0."
+abbrev pub emptyTask : Task
+emptyTask = record {
+  state = 0;
+  mode = Free;
+  count = 0;
+  waiting = replicate 16 noRequest;
+  up = replicate 16 empty3;
+  across = replicate 16 empty1;
+}
+
+abbrev pub emptyGate : Gate
+emptyGate = record { offers = 0; deal = Idle; down = replicate 16 empty1 }
+
+abbrev pub emptyState : State
+emptyState = record { tasks = replicate 16 emptyTask; gates = replicate 16 emptyGate; logged = 0 }
+
+-- what stands outside the 16 tasks and the 16 gates
+abbrev pub noTask : Task
+noTask = record { state = 0; mode = Free; count = 0; waiting = []; up = []; across = [] }
+
+abbrev pub noGate : Gate
+noGate = record { offers = 0; deal = Idle; down = [] }
+
+abbrev pub taskOf : State → ℕ → Task
+taskOf s t = getD (s .tasks) t noTask
+
+abbrev pub gateOf : State → ℕ → Gate
+gateOf s g = getD (s .gates) g noGate
+
+-- a party's channel to a gate, to a task
+abbrev pub upOf : Task → ℕ → Channel3
+upOf p g = getD (p .up) g empty3
+
+abbrev pub acrossOf : Task → ℕ → Channel1
+acrossOf p b = getD (p .across) b empty1
+
+abbrev pub downOf : Gate → ℕ → Channel1
+downOf k b = getD (k .down) b empty1
+
+-- a state, a task and a gate with one part changed
+abbrev pub withTask : State → ℕ → Task → State
+withTask s t p = record { tasks = set (s .tasks) t p; gates = s .gates; logged = s .logged }
+
+abbrev pub withGate : State → ℕ → Gate → State
+withGate s g k = record { tasks = s .tasks; gates = set (s .gates) g k; logged = s .logged }
+
+abbrev pub withLogged : State → ℕ → State
+withLogged s n = record { tasks = s .tasks; gates = s .gates; logged = n }
+
+abbrev pub atState : Task → ℕ → Task
+atState p x = record { state = x; mode = p .mode; count = p .count; waiting = p .waiting; up = p .up; across = p .across }
+
+abbrev pub withMode : Task → Mode → Task
+withMode p m = record { state = p .state; mode = m; count = p .count; waiting = p .waiting; up = p .up; across = p .across }
+
+abbrev pub withWaiting : Task → ℕ → List Request → Task
+withWaiting p n l = record { state = p .state; mode = p .mode; count = n; waiting = l; up = p .up; across = p .across }
+
+abbrev pub withUp : Task → ℕ → Channel3 → Task
+withUp p g c = record { state = p .state; mode = p .mode; count = p .count; waiting = p .waiting; up = set (p .up) g c; across = p .across }
+
+abbrev pub withAcross : Task → ℕ → Channel1 → Task
+withAcross p b c = record { state = p .state; mode = p .mode; count = p .count; waiting = p .waiting; up = p .up; across = set (p .across) b c }
+
+abbrev pub withDown : Gate → ℕ → Channel1 → Gate
+withDown k b c = record { offers = k .offers; deal = k .deal; down = set (k .down) b c }
+
+-- the waiting list with a request put last, which finds room for 16, and without its front
+abbrev pub withLast : Task → Request → Task
+withLast p r = cond (ltb (p .count) 16) (withWaiting p (p .count + 1) (set (p .waiting) (p .count) r)) p
+
+abbrev pub movedUp : List Request → List Request
+movedUp l = drop 1 l ++ noRequest ∷ []
+
+abbrev pub withoutFront : Task → Task
+withoutFront p = withWaiting p (p .count - 1) (movedUp (p .waiting))
+
+-- "It takes the oldest message of the channel named": the front of a channel of n messages, the first of them m
+abbrev pub frontOf : ℕ → Message → Front
+frontOf n m = cond (eqb n 0) Nothing (Oldest m)
+
+-- a party without the oldest message of a channel, and that message; a number outside 16 finds no channel
+abbrev pub popUp : Task → ℕ → PoppedTask
+popUp p g = record { task = withUp p g (popped3 (upOf p g)); front = frontOf (upOf p g .count) (upOf p g .first) }
+
+abbrev pub popAcross : Task → ℕ → PoppedTask
+popAcross p b = record { task = withAcross p b empty1; front = frontOf (acrossOf p b .count) (acrossOf p b .first) }
+
+abbrev pub popDown : Gate → ℕ → PoppedGate
+popDown k b = record { gate = withDown k b empty1; front = frontOf (downOf k b .count) (downOf k b .first) }
+
+-- a party with a message put last in a channel, and whether there was room
+abbrev pub putUp : Task → ℕ → Message → PutTask
+putUp p g m = record { task = withUp p g (put3 (upOf p g) m); room = ltb (upOf p g .count) 3 }
+
+abbrev pub putAcross : Task → ℕ → Message → PutTask
+putAcross p b m = record { task = withAcross p b (put1 (acrossOf p b) m); room = ltb (acrossOf p b .count) 1 }
+
+abbrev pub putDown : Gate → ℕ → Message → PutGate
+putDown k b m = record { gate = withDown k b (put1 (downOf k b) m); room = ltb (downOf k b .count) 1 }
+
+-- the state after its party's pop or put
+abbrev afterTaskPop : State → ℕ → PoppedTask → Popped
+afterTaskPop s t p = record { state = withTask s t (p .task); front = p .front }
+
+abbrev afterGatePop : State → ℕ → PoppedGate → Popped
+afterGatePop s g p = record { state = withGate s g (p .gate); front = p .front }
+
+abbrev pub popOf : State → Link → Popped
+popOf s (ToGate t g) = afterTaskPop s (t .0) (popUp (taskOf s (t .0)) (g .0))
+popOf s (FromGate g t) = afterGatePop s (g .0) (popDown (gateOf s (g .0)) (t .0))
+popOf s (ToTask t b) = afterTaskPop s (t .0) (popAcross (taskOf s (t .0)) (b .0))
+
+abbrev afterTaskPut : State → ℕ → PutTask → Put
+afterTaskPut s t p = record { state = withTask s t (p .task); room = p .room }
+
+abbrev afterGatePut : State → ℕ → PutGate → Put
+afterGatePut s g p = record { state = withGate s g (p .gate); room = p .room }
+
+abbrev pub putOf : State → Link → Message → Put
+putOf s (ToGate t g) m = afterTaskPut s (t .0) (putUp (taskOf s (t .0)) (g .0) m)
+putOf s (FromGate g t) m = afterGatePut s (g .0) (putDown (gateOf s (g .0)) (t .0) m)
+putOf s (ToTask t b) m = afterTaskPut s (t .0) (putAcross (taskOf s (t .0)) (b .0) m)

@@ -1,0 +1,16 @@
+-- `is_due` meets its contract, by what it calls.
+use borrow.Author.Needs.{needs}
+use Rattle.tasks.proofs.is_due.Statement.{statement}
+use Rattle.tasks.proofs.is_due.Tie as tie
+
+ready-at-requires : tie.Need-ready-at-requires
+ready-at-requires c κs = search needs
+
+ends-ready-requires : tie.Need-ends-ready-requires
+ends-ready-requires c κs = search needs
+
+returns : tie.Need-returns
+returns c = rw (c .before .ready-at .ensures, c .ends-ready .ensures)
+
+pub is-due-spec : {M : Type 1} → statement M
+is-due-spec = tie.close (tie.spec ready-at-requires ends-ready-requires returns)
