@@ -12,10 +12,14 @@ use Rattle.numbers.specs.declared.Endpoint.{Endpoint}
 use Rattle.numbers.specs.declared.Endpoint.the-variants.{Nobody, Task, Gate}
 use Rattle.table.specs.declared.Table.{Table}
 use Rattle.soundness.specs.Sound.{soundTable}
-use Rattle.channels.specs.Channels.{noRequest, empty1, popped3}
+use Rattle.channels.specs.Channels.{noRequest}
 use Rattle.channels.specs.declared.Request.{Request}
-use Rattle.state.specs.States.{taskOf, gateOf, upOf, acrossOf, downOf, withTask, withGate, withLogged, withUp, withAcross, withDown}
+use Rattle.state.specs.States.{taskOf, gateOf, withTask, withGate, withLogged, popOf}
 use Rattle.state.specs.declared.State.{State}
+use Rattle.state.specs.declared.Link.the-variants.{ToGate, FromGate, ToTask}
+use Rattle.state.specs.declared.Front.{Front}
+use Rattle.state.specs.declared.Front.the-variants.{Nothing, Oldest}
+use Rattle.state.specs.declared.Popped.{Popped}
 use Rattle.sound_state.specs.SoundState.{soundState}
 use Rattle.tasks.specs.Tasks.{atTask}
 use Rattle.gates.specs.Gates.{atGate}
@@ -70,35 +74,34 @@ abbrev pub settledAtGate : State → State → ℕ → gate.Work → Delivered
 settledAtGate s popped g w =
     cond (not (w .ok)) (record { state = s; answer = Excluded }) (record { state = withGate popped g (w .gate); answer = Done })
 
--- "It takes the oldest message of the channel named." From task t to gate g; no entry is written there.
-unfoldable pub toGate : List ℕ → List ℕ → State → ℕ → ℕ → Delivered
-toGate vectors masks s t g =
-    cond (eqb (upOf (taskOf s t) g .count) 0) (record { state = s; answer = ChannelEmpty })
-    (settledAtGate s (withTask s t (withUp (taskOf s t) g (popped3 (upOf (taskOf s t) g)))) g
-    (atGate masks (getD vectors g 0) g t (gateOf s g) (upOf (taskOf s t) g .first)))
+-- "It takes the oldest message of the channel named": what is at the front, and the state popped without it.
+-- From task t to gate g; no entry is written there.
+module _ (vectors masks : List ℕ) (s : State) (t g : ℕ) where
+  abbrev pub frontAtGate : State → Front → Delivered
+  frontAtGate popped Nothing = record { state = s; answer = ChannelEmpty }
+  frontAtGate popped (Oldest m) = settledAtGate s popped g (atGate masks (getD vectors g 0) g t (gateOf s g) m)
 
--- From task a, or gate g, to task b.
+  unfoldable pub toGate : Popped → Delivered
+  toGate taken = frontAtGate (taken .state) (taken .front)
+
 module _ (moves masks : List ℕ) (gates : ℕ) (s : State) (log : List ℕ) where
-  unfoldable pub toTask : ℕ → ℕ → Outcome
-  toTask a b =
-      cond (eqb (acrossOf (taskOf s a) b .count) 0) (refused s log ChannelEmpty)
-      (settledAtTask s (withTask s a (withAcross (taskOf s a) b empty1)) log b
-      (atTask moves gates b masks (taskOf s b) (acrossOf (taskOf s a) b .first)))
+  -- To task b.
+  abbrev pub frontAtTask : ℕ → State → Front → Outcome
+  frontAtTask b popped Nothing = refused s log ChannelEmpty
+  frontAtTask b popped (Oldest m) = settledAtTask s popped log b (atTask moves gates b masks (taskOf s b) m)
 
-  unfoldable pub fromGate : ℕ → ℕ → Outcome
-  fromGate g b =
-      cond (eqb (downOf (gateOf s g) b .count) 0) (refused s log ChannelEmpty)
-      (settledAtTask s (withGate s g (withDown (gateOf s g) b empty1)) log b
-      (atTask moves gates b masks (taskOf s b) (downOf (gateOf s g) b .first)))
+  unfoldable pub toTask : ℕ → Popped → Outcome
+  toTask b taken = frontAtTask b (taken .state) (taken .front)
 
   -- 8: "endpoint absent, gate to gate, or from equals to"
   abbrev pub between : List ℕ → Endpoint → Endpoint → Outcome
   between vectors Nobody e = refused s log NoChannel
   between vectors (Task a) Nobody = refused s log NoChannel
-  between vectors (Task a) (Task b) = cond (eqb (a .0) (b .0)) (refused s log NoChannel) (toTask (a .0) (b .0))
-  between vectors (Task t) (Gate g) = withLog log (toGate vectors masks s (t .0) (g .0))
+  between vectors (Task a) (Task b) =
+      cond (eqb (a .0) (b .0)) (refused s log NoChannel) (toTask (b .0) (popOf s (ToTask a b)))
+  between vectors (Task t) (Gate g) = withLog log (toGate vectors masks s (t .0) (g .0) (popOf s (ToGate t g)))
   between vectors (Gate g) Nobody = refused s log NoChannel
-  between vectors (Gate g) (Task b) = fromGate (g .0) (b .0)
+  between vectors (Gate g) (Task b) = toTask (b .0) (popOf s (FromGate g b))
   between vectors (Gate g) (Gate h) = refused s log NoChannel
 
 -- 11: the table, the state, and the log count against the capacity of a log of n bytes

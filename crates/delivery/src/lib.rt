@@ -1,139 +1,25 @@
-// A delivery: two parties are taken out, judged, and both stored back.
+// A delivery: the oldest message of a channel is taken, and its receiver handles it.
 use answers::Answer;
-use channels::Channel1;
-use channels::Message;
 use channels::Request;
 use numbers::Endpoint;
 use numbers::GateNo;
 use numbers::TaskNo;
-use state::Gate;
+use state::Front;
+use state::Link;
 use state::State;
-use state::Task;
 use table::Table;
-ghost use mathlib.Core.Bool.{cond};
+use tasks::Work;
 ghost use mathlib.Core.Path.{_≡_};
-ghost use Rattle.answers.specs.Answers.{isDone};
 ghost use Prim.Native.Nat.{_+_, _-_, _*_, _/_, _≤_, _<_};
 ghost use lib.ListN.{getD, length};
 ghost use Rattle.channels.specs.Channels.{noRequest};
 ghost use Rattle.numbers.specs.Endpoints.{InRange};
-ghost use Rattle.delivery.specs.Delivery.{entered, written, toGate, toTask, fromGate, between, result, soundFor, delivered};
-ghost use Rattle.delivery.specs.Parties.{atGateParties, refusedAtTask, atTaskParty};
+ghost use Rattle.delivery.specs.Delivery.{entered, written, settledAtTask, toGate, toTask, between, result, soundFor, delivered};
+ghost use Rattle.state.specs.States.{popOf};
 
 pub struct Delivered {
     pub state: State,
     pub answer: Answer,
-}
-
-// Both parties after a delivery from a task to a gate.
-pub struct AtGate {
-    pub task: Task,
-    pub gate: Gate,
-    pub answer: Answer,
-}
-
-// The receiving task after a delivery, and the log entries.
-pub struct AtTask {
-    pub task: Task,
-    pub answer: Answer,
-    pub fired: u8,
-    pub entries: [Request; 16],
-}
-
-fn at_gate_parties(masks: &[u16], vectors: u8, t: TaskNo, g: GateNo, p: Task, k: Gate) -> AtGate
-    requires { ⌜ g .0 < 16 ⌝ }
-    ensures { λ r. ⌜ r ≡ atGateParties (now (masks .entry)) vectors (t .0) (g .0) p k ⌝ }
-{
-    let channel = p.up[g.0 as usize];
-    let message = channel.first;
-    if channel.count == 0 {
-        return AtGate {
-            task: p,
-            gate: k,
-            answer: Answer::ChannelEmpty,
-        };
-    }
-    let w = gates::at_gate(masks, vectors, g, t, k, message);
-    if !w.ok {
-        return AtGate {
-            task: p,
-            gate: k,
-            answer: Answer::Excluded,
-        };
-    }
-    let mut popped = p;
-    let rest = channel.popped();
-    popped.up[g.0 as usize] = rest;
-    let gate = w.gate;
-    AtGate {
-        task: popped,
-        gate,
-        answer: Answer::Done,
-    }
-}
-
-fn refused_at_task(task: Task, answer: Answer) -> AtTask
-    ensures { λ r. ⌜ r ≡ refusedAtTask task answer ⌝ }
-{
-    let none = channels::no_request();
-    let entries = [none; 16];
-    AtTask {
-        task,
-        answer,
-        fired: 0,
-        entries,
-    }
-}
-
-fn at_task_party<'a>(
-    moves: &'a [u8],
-    gates: u8,
-    b: TaskNo,
-    masks: &'a [u16],
-    room: usize,
-    p: Task,
-    channel: Channel1,
-) -> AtTask
-    ensures { λ r. ⌜ r ≡ atTaskParty (now (moves .entry)) gates (b .0) (now (masks .entry)) room p (channel .count) (channel .first) ⌝ }
-    ensures { λ r. ⌜ r .fired ≤ room ⌝ }
-{
-    let message = channel.first;
-    if channel.count == 0 {
-        return refused_at_task(p, Answer::ChannelEmpty);
-    }
-    let w = tasks::at_task(moves, gates, b, masks, p, message);
-    if !w.ok {
-        return refused_at_task(p, Answer::Excluded);
-    }
-    if room < w.fired as usize {
-        return refused_at_task(p, Answer::LogFull);
-    }
-    let task = w.task;
-    let entries = w.entries;
-    AtTask {
-        task,
-        answer: Answer::Done,
-        fired: w.fired,
-        entries,
-    }
-}
-
-// From a task to a gate.
-fn to_gate<'a>(vectors: &'a [u8], masks: &'a [u16], mut s: State, t: TaskNo, g: GateNo) -> Delivered
-    requires { ⌜ (t .0 < 16) × (g .0 < 16) ⌝ }
-    ensures { λ r. ⌜ r ≡ toGate (now (vectors .entry)) (now (masks .entry)) s (t .0) (g .0) ⌝ }
-{
-    let i = t.0 as usize;
-    let j = g.0 as usize;
-    let p = s.tasks[i];
-    let k = s.gates[j];
-    let w = at_gate_parties(masks, reads::byte(vectors, j), t, g, p, k);
-    let task = w.task;
-    let gate = w.gate;
-    let answer = w.answer;
-    s.tasks[i] = task;
-    s.gates[j] = gate;
-    Delivered { state: s, answer }
 }
 
 // One entry, two bytes.
@@ -168,94 +54,106 @@ fn entry(entries: [Request; 16], k: u8) -> Request
     }
 }
 
-fn pick_gate(answer: Answer, done: Gate, other: Gate) -> Gate
-    ensures { λ r. ⌜ r ≡ cond (isDone answer) done other ⌝ }
-{
-    if answers::is_done(answer) {
-        done
-    } else {
-        other
-    }
-}
-
-fn pick_task(answer: Answer, done: Task, other: Task) -> Task
-    ensures { λ r. ⌜ r ≡ cond (isDone answer) done other ⌝ }
-{
-    if answers::is_done(answer) {
-        done
-    } else {
-        other
-    }
-}
-
-// From a gate to a task.
-fn from_gate<'a>(
-    moves: &'a [u8],
+// The oldest message of task t's channel to gate g.
+fn to_gate<'a>(
+    vectors: &'a [u8],
     masks: &'a [u16],
-    gates: u8,
-    mut s: State,
-    log: &'a mut [u8],
+    s: State,
+    link: Link,
+    t: TaskNo,
     g: GateNo,
-    b: TaskNo,
 ) -> Delivered
-    requires { ⌜ (g .0 < 16) × (b .0 < 16) × (s .logged ≤ length (now log) / 2) ⌝ }
-    ensures state { λ r. ⌜ r ≡ result (fromGate (now (moves .entry)) (now (masks .entry)) gates s (now (log .entry)) (g .0) (b .0)) ⌝ }
-    ensures bytes { λ _. ⌜ now (log .exit) ≡ fromGate (now (moves .entry)) (now (masks .entry)) gates s (now (log .entry)) (g .0) (b .0) .log ⌝ }
+    requires { ⌜ g .0 < 16 ⌝ }
+    ensures { λ r. ⌜ r ≡ toGate (now (vectors .entry)) (now (masks .entry)) s (t .0) (g .0) (popOf s link) ⌝ }
 {
     let i = g.0 as usize;
-    let j = b.0 as usize;
-    let at = s.logged;
-    let k = s.gates[i];
-    let p = s.tasks[j];
-    let channel = k.down[j];
-    let w = at_task_party(moves, gates, b, masks, log.len() / 2 - at, p, channel);
-    let answer = w.answer;
-    let entries = w.entries;
-    let fired = w.fired;
-    let mut popped = k;
-    popped.down[j] = Channel1::empty();
-    let gate = pick_gate(answer, popped, k);
-    let task = w.task;
-    s.gates[i] = gate;
-    s.tasks[j] = task;
-    s.logged = at + fired as usize;
-    write(log, at, entries, fired);
-    Delivered { state: s, answer }
+    let taken = s.pop(link);
+    let front = taken.front;
+    match front {
+        Front::Nothing => Delivered {
+            state: s,
+            answer: Answer::ChannelEmpty,
+        },
+        Front::Oldest(message) => {
+            let k = s.gates[i];
+            let w = gates::at_gate(masks, reads::byte(vectors, i), g, t, k, message);
+            if !w.ok {
+                return Delivered {
+                    state: s,
+                    answer: Answer::Excluded,
+                };
+            }
+            let gate = w.gate;
+            let mut popped = taken.state;
+            popped.gates[i] = gate;
+            Delivered {
+                state: popped,
+                answer: Answer::Done,
+            }
+        }
+    }
 }
 
-// From a task to another.
+// The oldest message of a channel to task b.
 fn to_task<'a>(
     moves: &'a [u8],
     masks: &'a [u16],
     gates: u8,
-    mut s: State,
+    s: State,
     log: &'a mut [u8],
-    a: TaskNo,
+    link: Link,
     b: TaskNo,
 ) -> Delivered
-    requires { ⌜ (a .0 < 16) × (b .0 < 16) × (s .logged ≤ length (now log) / 2) ⌝ }
-    ensures state { λ r. ⌜ r ≡ result (toTask (now (moves .entry)) (now (masks .entry)) gates s (now (log .entry)) (a .0) (b .0)) ⌝ }
-    ensures bytes { λ _. ⌜ now (log .exit) ≡ toTask (now (moves .entry)) (now (masks .entry)) gates s (now (log .entry)) (a .0) (b .0) .log ⌝ }
+    requires { ⌜ (b .0 < 16) × (s .logged ≤ length (now log) / 2) ⌝ }
+    ensures state { λ r. ⌜ r ≡ result (toTask (now (moves .entry)) (now (masks .entry)) gates s (now (log .entry)) (b .0) (popOf s link)) ⌝ }
+    ensures bytes { λ _. ⌜ now (log .exit) ≡ toTask (now (moves .entry)) (now (masks .entry)) gates s (now (log .entry)) (b .0) (popOf s link) .log ⌝ }
 {
-    let i = a.0 as usize;
-    let j = b.0 as usize;
+    let taken = s.pop(link);
+    let front = taken.front;
+    match front {
+        Front::Nothing => Delivered {
+            state: s,
+            answer: Answer::ChannelEmpty,
+        },
+        Front::Oldest(message) => {
+            let i = b.0 as usize;
+            let p = s.tasks[i];
+            let w = tasks::at_task(moves, gates, b, masks, p, message);
+            let popped = taken.state;
+            settled(s, popped, log, b, w)
+        }
+    }
+}
+
+// A task's work settled: its state and entries, or a refusal.
+fn settled(s: State, mut popped: State, log: &mut [u8], b: TaskNo, w: Work) -> Delivered
+    requires { ⌜ (b .0 < 16) × (s .logged ≤ length (now log) / 2) ⌝ }
+    ensures state { λ r. ⌜ r ≡ result (settledAtTask s popped (now (log .entry)) (b .0) w) ⌝ }
+    ensures bytes { λ _. ⌜ now (log .exit) ≡ settledAtTask s popped (now (log .entry)) (b .0) w .log ⌝ }
+{
+    let i = b.0 as usize;
     let at = s.logged;
-    let k = s.tasks[i];
-    let p = s.tasks[j];
-    let channel = k.across[j];
-    let w = at_task_party(moves, gates, b, masks, log.len() / 2 - at, p, channel);
-    let answer = w.answer;
-    let entries = w.entries;
-    let fired = w.fired;
-    let mut popped = k;
-    popped.across[j] = Channel1::empty();
-    let sender = pick_task(answer, popped, k);
+    if !w.ok {
+        return Delivered {
+            state: s,
+            answer: Answer::Excluded,
+        };
+    }
+    if log.len() / 2 - at < w.fired as usize {
+        return Delivered {
+            state: s,
+            answer: Answer::LogFull,
+        };
+    }
     let task = w.task;
-    s.tasks[i] = sender;
-    s.tasks[j] = task;
-    s.logged = at + fired as usize;
-    write(log, at, entries, fired);
-    Delivered { state: s, answer }
+    let entries = w.entries;
+    popped.tasks[i] = task;
+    popped.logged = at + w.fired as usize;
+    write(log, at, entries, w.fired);
+    Delivered {
+        state: popped,
+        answer: Answer::Done,
+    }
 }
 
 // A delivery where table, state and log are known to be sound.
@@ -290,16 +188,16 @@ fn between<'a>(
                         answer: Answer::NoChannel,
                     };
                 }
-                to_task(moves, masks, gates, s, log, a, b)
+                to_task(moves, masks, gates, s, log, Link::ToTask(a, b), b)
             }
-            Endpoint::Gate(g) => to_gate(vectors, masks, s, a, g),
+            Endpoint::Gate(g) => to_gate(vectors, masks, s, Link::ToGate(a, g), a, g),
         },
         Endpoint::Gate(g) => match to {
             Endpoint::Nobody => Delivered {
                 state: s,
                 answer: Answer::NoChannel,
             },
-            Endpoint::Task(b) => from_gate(moves, masks, gates, s, log, g, b),
+            Endpoint::Task(b) => to_task(moves, masks, gates, s, log, Link::FromGate(g, b), b),
             Endpoint::Gate(_) => Delivered {
                 state: s,
                 answer: Answer::NoChannel,

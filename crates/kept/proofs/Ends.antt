@@ -14,14 +14,16 @@ use Rattle.numbers.specs.declared.Endpoint.{Endpoint}
 use Rattle.numbers.specs.declared.Endpoint.the-variants.{Nobody, Task, Gate}
 use Rattle.table.specs.declared.Table.{Table}
 use Rattle.channels.specs.Channels.{empty1, popped3}
-use Rattle.state.specs.States.{taskOf, gateOf, upOf, acrossOf, downOf, withTask, withGate, withLogged, withUp, withAcross, withDown}
+use Rattle.channels.specs.declared.Message.{Message}
+use Rattle.state.specs.States.{taskOf, gateOf, upOf, acrossOf, downOf, withTask, withGate, withLogged, withUp, withAcross, withDown, frontOf, popOf}
 use Rattle.state.specs.declared.State.{State}
+use Rattle.state.specs.declared.Front.the-variants.{Nothing, Oldest}
+use Rattle.state.specs.declared.Link.the-variants.{ToTask}
 use Rattle.tasks.specs.Tasks.{atTask}
 use Rattle.tasks.specs.declared.Work as task
 use Rattle.gates.specs.Gates.{atGate}
 use Rattle.gates.specs.declared.Work as gate
-use Rattle.delivery.specs.Delivery.{Outcome, withLog, refused, written, settledAtTask, settledAtGate, toGate, toTask, fromGate, between, sound, delivered}
-use Rattle.delivery.specs.declared.Delivered.{Delivered}
+use Rattle.delivery.specs.Delivery.{Outcome, withLog, refused, written, settledAtTask, settledAtGate, frontAtGate, toGate, frontAtTask, toTask, between, sound, delivered}
 
 -- the state without the message, for each pair of parties
 module _ (s : State) where
@@ -110,37 +112,42 @@ module _ (T : Table) (s : State) (log : List ℕ) (h : sound T s log ≡ true) w
       turn false true q = refuses LogFull refl
       turn false false q = e (ltb-false (length log / 2 - s .logged) (w .fired) q)
 
-  found : (n : ℕ) (o : Outcome) → ((n ≡ 0 → ⊥) → Ends T s log o)
-      → Ends T s log (cond (eqb n 0) (refused s log ChannelEmpty) o)
-  found n o e = turn (eqb n 0) refl
+  found : (n : ℕ) (m : Message) (popped : State) (b : ℕ)
+      → ((n ≡ 0 → ⊥) → Ends T s log (frontAtTask (T .moves) (T .masks) (T .gates) s log b popped (Oldest m)))
+      → Ends T s log (frontAtTask (T .moves) (T .masks) (T .gates) s log b popped (frontOf n m))
+  found n m popped b e = turn (eqb n 0) refl
     where
-      turn : (b : Bool) → eqb n 0 ≡ b → Ends T s log (cond b (refused s log ChannelEmpty) o)
+      turn : (x : Bool) → eqb n 0 ≡ x
+          → Ends T s log (frontAtTask (T .moves) (T .masks) (T .gates) s log b popped (cond x Nothing (Oldest m)))
       turn true q = refuses ChannelEmpty refl
       turn false q = e (eqb-false n 0 q)
 
-  found-at-gate : (n : ℕ) (d : Delivered) → Ends T s log (withLog log d)
-      → Ends T s log (withLog log (cond (eqb n 0) (record { state = s; answer = ChannelEmpty }) d))
-  found-at-gate n d e = turn (eqb n 0)
+  found-at-gate : (n : ℕ) (m : Message) (popped : State) (t g : ℕ)
+      → Ends T s log (withLog log (frontAtGate (T .vectors) (T .masks) s t g popped (Oldest m)))
+      → Ends T s log (withLog log (frontAtGate (T .vectors) (T .masks) s t g popped (frontOf n m)))
+  found-at-gate n m popped t g e = turn (eqb n 0)
     where
-      turn : (b : Bool) → Ends T s log (withLog log (cond b (record { state = s; answer = ChannelEmpty }) d))
+      turn : (x : Bool) → Ends T s log (withLog log (frontAtGate (T .vectors) (T .masks) s t g popped (cond x Nothing (Oldest m))))
       turn true = refuses ChannelEmpty refl
       turn false = e
 
   between-ends : (x y : Endpoint) → isPresent T x → isPresent T y → Ends T s log (between (T .moves) (T .masks) (T .gates) s log (T .vectors) x y)
-  unfolding toGate toTask fromGate
+  unfolding toGate toTask
   between-ends Nobody y p q = refuses NoChannel refl
   between-ends (Task a) Nobody p q = refuses NoChannel refl
   between-ends (Task a) (Task b) p q = turn (eqb (a .0) (b .0))
     where
-      turn : (x : Bool) → Ends T s log (cond x (refused s log NoChannel) (toTask (T .moves) (T .masks) (T .gates) s log (a .0) (b .0)))
+      turn : (x : Bool) → Ends T s log (cond x (refused s log NoChannel) (toTask (T .moves) (T .masks) (T .gates) s log (b .0) (popOf s (ToTask a b))))
       turn true = refuses NoChannel refl
-      turn false = found (acrossOf (taskOf s (a .0)) (b .0) .count) _ (λ n.
+      turn false = found (acrossOf (taskOf s (a .0)) (b .0) .count) _ (acrossPopped s (a .0) (b .0)) (b .0) (λ n.
           at-task-ends (acrossPopped s (a .0) (b .0)) (b .0) (acrossWork T s (a .0) (b .0))
           (to-task (a .0) (b .0) h p q n))
-  between-ends (Task t) (Gate g) p q = found-at-gate (upOf (taskOf s (t .0)) (g .0) .count) _
+  between-ends (Task t) (Gate g) p q =
+      found-at-gate (upOf (taskOf s (t .0)) (g .0) .count) _ (upPopped s (t .0) (g .0)) (t .0) (g .0)
       (at-gate-ends (upPopped s (t .0) (g .0)) (g .0) (upWork T s (t .0) (g .0)) (to-gate (t .0) (g .0) h p q))
   between-ends (Gate g) Nobody p q = refuses NoChannel refl
-  between-ends (Gate g) (Task b) p q = found (downOf (gateOf s (g .0)) (b .0) .count) _ (λ n.
+  between-ends (Gate g) (Task b) p q =
+      found (downOf (gateOf s (g .0)) (b .0) .count) _ (downPopped s (g .0) (b .0)) (b .0) (λ n.
       at-task-ends (downPopped s (g .0) (b .0)) (b .0) (downWork T s (g .0) (b .0)) (from-gate (g .0) (b .0) h p q n))
   between-ends (Gate g) (Gate k) p q = refuses NoChannel refl
 

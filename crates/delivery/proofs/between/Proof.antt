@@ -33,27 +33,13 @@ returns c = (
 )
 
 to-task-requires : tie.Need-to-task-requires
-to-task-requires c κs = (
-  subst InRange (c .before .before .before .before .before .before .before .before .from .given .1)
-      (c .before .before .before .before .before .before .before .before .before .before .before .before .before
-      .before .pre .0),
-  subst InRange (c .before .before .before .before .before .to .given .1)
-      (c .before .before .before .before .before .before .before .before .before .before .before .before .before
-      .before .pre .1),
-  c .before .before .before .before .before .before .before .before .before .before .before .before .before .before
-      .pre .2,
-)
+to-task-requires c κs = (subst InRange (c .before .before .before .before .before .to .given .1) (c .before .before .before .before .before .before .before .before .before .before .before .before .before .before .pre .1), c .before .before .before .before .before .before .before .before .before .before .before .before .before .before .pre .2)
 
 enum-known-to-2 : tie.Need-enum-known-to-2
 enum-known-to-2 c = search needs
 
 to-gate-requires : tie.Need-to-gate-requires
-to-gate-requires c κs = (
-  subst InRange (c .before .before .before .before .from .given .1)
-      (c .before .before .before .before .before .before .before .before .before .before .pre .0),
-  subst InRange (c .before .to2 .given .1)
-      (c .before .before .before .before .before .before .before .before .before .before .pre .1),
-)
+to-gate-requires c κs = subst InRange (c .before .to2 .given .1) (c .before .before .before .before .before .before .before .before .before .before .pre .1)
 
 enum-known-from-2 : tie.Need-enum-known-from-2
 enum-known-from-2 c = search needs
@@ -64,14 +50,8 @@ enum-told-3 c = search needs
 enum-known-to-3 : tie.Need-enum-known-to-3
 enum-known-to-3 c = search needs
 
-from-gate-requires : tie.Need-from-gate-requires
-from-gate-requires c κs = (
-  subst InRange (c .before .before .before .before .before .from2 .given .1)
-      (c .before .before .before .before .before .before .before .before .before .before .before .pre .0),
-  subst InRange (c .before .before .to3 .given .1)
-      (c .before .before .before .before .before .before .before .before .before .before .before .pre .1),
-  c .before .before .before .before .before .before .before .before .before .before .before .pre .2,
-)
+to-task-requires-2 : tie.Need-to-task-requires-2
+to-task-requires-2 c κs = (subst InRange (c .before .before .to3 .given .1) (c .before .before .before .before .before .before .before .before .before .before .before .pre .1), c .before .before .before .before .before .before .before .before .before .before .before .pre .2)
 
 enum-told-4 : tie.Need-enum-told-4
 enum-told-4 c = search needs
@@ -125,11 +105,11 @@ returns-7 c = (
   rw (
     c .before .before .before .before .before .before .before .before .from2 .given .1,
     c .before .before .before .before .before .to3 .given .1,
-  ) (c .before .before .from-gate .ensures .0),
+  ) (c .before .before .to-task2 .ensures .0),
   rw (
     c .before .before .before .before .before .before .before .before .from2 .given .1,
     c .before .before .before .before .before .to3 .given .1,
-  ) (c .before .before .from-gate .ensures .1),
+  ) (c .before .before .to-task2 .ensures .1),
 )
 
 returns-8 : tie.Need-returns-8
@@ -153,7 +133,7 @@ between-spec =
     enum-known-from-2
     enum-told-3
     enum-known-to-3
-    from-gate-requires
+    to-task-requires-2
     enum-told-4
     returns-2
     returns-3

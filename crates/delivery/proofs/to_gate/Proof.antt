@@ -1,20 +1,20 @@
--- `to_gate` meets its contract: both parties stored back are the outcome (`stored-at-gate`).
+-- `to_gate` meets its contract: what the pop took is at the front, and each return has passed the tests before it.
+use Rattle.delivery.specs.Delivery.{toGate}
 use borrow.Author.Needs.{needs}
-use Rattle.delivery.proofs.Stored.{stored-at-gate}
 use Rattle.delivery.proofs.to_gate.Statement.{statement}
 use Rattle.delivery.proofs.to_gate.Tie as tie
 
 cast-i : tie.Need-cast-i
 cast-i c = search needs
 
-cast-j : tie.Need-cast-j
-cast-j c = search needs
+pop-requires : tie.Need-pop-requires
+pop-requires c κs = search needs
 
-mul-p : tie.Need-mul-p
-mul-p c = search needs
+enum-told : tie.Need-enum-told
+enum-told c = search needs
 
-element-copy-out-p : tie.Need-element-copy-out-p
-element-copy-out-p c = search needs
+enum-known-front : tie.Need-enum-known-front
+enum-known-front c = search needs
 
 mul-k : tie.Need-mul-k
 mul-k c = search needs
@@ -25,14 +25,12 @@ element-copy-out-k c = search needs
 byte-requires : tie.Need-byte-requires
 byte-requires c κs = search needs
 
-at-gate-parties-requires : tie.Need-at-gate-parties-requires
-at-gate-parties-requires c κs = search needs
+at-gate-requires : tie.Need-at-gate-requires
+at-gate-requires c κs = search needs
 
-mul-task : tie.Need-mul-task
-mul-task c = search needs
-
-element-set-from-task : tie.Need-element-set-from-task
-element-set-from-task c = search needs
+returns : tie.Need-returns
+unfolding toGate
+returns c = rw (← c .before .before .before .before .before .before .before .before .pop .ensures, c .before .before .before .before .before .before .front .given .1, ← c .before .before .before .byte .ensures, ← c .before .before .at-gate .ensures, c .if1 .taken)
 
 mul-gate : tie.Need-mul-gate
 mul-gate c = search needs
@@ -40,32 +38,28 @@ mul-gate c = search needs
 element-set-from-gate : tie.Need-element-set-from-gate
 element-set-from-gate c = search needs
 
-returns : tie.Need-returns
-returns c = rw (
-  c .before .before .at-gate-parties .ensures,
-  c .before .before .before .byte .ensures,
-)
-    (stored-at-gate
-    (c .before .before .before .before .before .before .before .before .before .before .args .vectors .now)
-    (c .before .before .before .before .before .before .before .before .before .before .args .masks .now)
-    (c .before .before .before .before .before .before .before .before .before .before .args .t3)
-    (c .before .before .before .before .before .before .before .before .before .before .args .t .0)
-    (c .before .before .before .before .before .before .before .before .before .before .args .g .0))
+returns-2 : tie.Need-returns-2
+unfolding toGate
+returns-2 c = rw (← c .before .before .pop .ensures, c .enum-told .given .1)
+
+returns-3 : tie.Need-returns-3
+unfolding toGate
+returns-3 c = rw (← c .before .before .before .before .before .before .before .before .before .before .pop .ensures, c .before .before .before .before .before .before .before .before .front .given .1, ← c .before .before .before .before .before .byte .ensures, ← c .before .before .before .before .at-gate .ensures, c .before .before .if1 .left)
 
 pub to-gate-spec : {M : Type 1} → statement M
 to-gate-spec =
     tie.close
     (tie.spec
     cast-i
-    cast-j
-    mul-p
-    element-copy-out-p
+    pop-requires
+    enum-told
+    enum-known-front
     mul-k
     element-copy-out-k
     byte-requires
-    at-gate-parties-requires
-    mul-task
-    element-set-from-task
+    at-gate-requires
+    returns
     mul-gate
     element-set-from-gate
-    returns)
+    returns-2
+    returns-3)
