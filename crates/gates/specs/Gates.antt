@@ -9,11 +9,11 @@ use Rattle.sets.specs.Sets.{memberOf, subsetOf, unionOf, minusOf, withOf, witho
 use Rattle.sets.specs.declared.Found.{Found}
 use Rattle.sets.specs.declared.Found.the-variants.{Nobody, Task}
 use Rattle.table.specs.Tables.{maskOf}
-use Rattle.channels.specs.Channels.{put1}
 use Rattle.channels.specs.declared.Request.{Request}
 use Rattle.channels.specs.declared.Message.{Message}
 use Rattle.channels.specs.declared.Message.the-variants.{Ready, Lock, Commit, Abort}
-use Rattle.state.specs.States.{downOf, withDown}
+use Rattle.state.specs.States.{putDown}
+use Rattle.state.specs.declared.PutGate.{PutGate}
 use Rattle.state.specs.declared.Deal.{Deal}
 use Rattle.state.specs.declared.Deal.the-variants.{Idle, Dealing}
 use Rattle.state.specs.declared.Gate.{Gate}
@@ -35,9 +35,12 @@ dealtMask masks g Idle = 0
 dealtMask masks g (Dealing v) = maskOf masks g v
 
 -- a message to a task: a full channel stays as it is, and is not allowed
+abbrev pub sending : PutGate → Work
+sending put = record { gate = put .gate; ok = put .room }
+
 abbrev pub toTask : Gate → Found → Message → Work
 toTask k Nobody m = allowed k
-toTask k (Task b) m = record { gate = withDown k (b .0) (put1 (downOf k (b .0)) m); ok = ltb (downOf k (b .0) .count) 1 }
+toTask k (Task b) m = sending (putDown k (b .0) m)
 
 -- the offers after a result by task t where the dealt vector has the mask: COMMIT, "t leaves the offers, and the dealt
 -- vector's tasks aren't put back"; ABORT, "the dealt vector's tasks rejoin the offers, then t leaves them"

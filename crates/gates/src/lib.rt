@@ -117,24 +117,15 @@ fn fitting(masks: &[u16], vectors: u8, gate: GateNo, offers: u16) -> u8
 }
 
 // A message to a task. A full channel stays as it is, and is not allowed.
-fn to_task(mut k: Gate, to: Found, message: Message) -> Work
+fn to_task(k: Gate, to: Found, message: Message) -> Work
     ensures { λ r. ⌜ r ≡ toTask k to message ⌝ }
 {
     match to {
         Found::Nobody => Work { gate: k, ok: true },
         Found::Task(b) => {
-            let i = b.0 as usize;
-            if i < 16 {
-                let channel = k.down[i];
-                let count = channel.count;
-                let after = channel.put(message);
-                k.down[i] = after;
-                return Work {
-                    gate: k,
-                    ok: count < 1,
-                };
-            }
-            Work { gate: k, ok: true }
+            let put = k.put_down(b, message);
+            let gate = put.gate;
+            Work { gate, ok: put.room }
         }
     }
 }

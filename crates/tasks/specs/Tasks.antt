@@ -11,11 +11,12 @@ use Rattle.sets.specs.declared.Found.the-variants as found
 use Rattle.table.specs.Tables.{moveOf, readyOf, maskOf}
 use Rattle.table.specs.declared.Move.{Move}
 use Rattle.table.specs.declared.Move.the-variants.{Nowhere, To}
-use Rattle.channels.specs.Channels.{noRequest, put1, put3, endsReady}
+use Rattle.channels.specs.Channels.{noRequest, endsReady}
 use Rattle.channels.specs.declared.Request.{Request}
 use Rattle.channels.specs.declared.Message.{Message}
 use Rattle.channels.specs.declared.Message.the-variants.{Ready, Lock, Commit, Abort}
-use Rattle.state.specs.States.{upOf, acrossOf, atState, withMode, withLast, withoutFront, withUp, withAcross}
+use Rattle.state.specs.States.{upOf, atState, withMode, withLast, withoutFront, putUp, putAcross}
+use Rattle.state.specs.declared.PutTask.{PutTask}
 use Rattle.state.specs.declared.Mode.{Mode}
 use Rattle.state.specs.declared.Mode.the-variants.{Free, Held}
 use Rattle.state.specs.declared.Task.{Task}
@@ -32,11 +33,14 @@ begun p = record { task = p; ok = true; fired = 0; entries = replicate 16 noRequ
 abbrev pub excluded : Task → Work
 excluded p = record { task = p; ok = false; fired = 0; entries = replicate 16 noRequest }
 
+abbrev pub sending : Work → PutTask → Work
+sending w put = with w (put .task) (w .ok && put .room)
+
 abbrev pub toGate : Work → ℕ → Message → Work
-toGate w g m = with w (withUp (w .task) g (put3 (upOf (w .task) g) m)) (w .ok && ltb (upOf (w .task) g .count) 3)
+toGate w g m = sending w (putUp (w .task) g m)
 
 abbrev pub toTask : Work → ℕ → Message → Work
-toTask w b m = with w (withAcross (w .task) b (put1 (acrossOf (w .task) b) m)) (w .ok && ltb (acrossOf (w .task) b .count) 1)
+toTask w b m = sending w (putAcross (w .task) b m)
 
 -- "the entry is written after the log's last"
 abbrev pub entered : Work → Request → Work

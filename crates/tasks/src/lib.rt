@@ -66,31 +66,19 @@ impl Work {
     fn to_gate(self, gate: GateNo, message: Message) -> Self
         ensures { λ r. ⌜ r ≡ toGate self (gate .0) message ⌝ }
     {
-        let mut task = self.task;
-        let i = gate.0 as usize;
-        if i < 16 {
-            let channel = task.up[i];
-            let room = channel.count < 3;
-            let longer = channel.put(message);
-            task.up[i] = longer;
-            return self.with(task, self.ok & room);
-        }
-        self.with(task, self.ok & true)
+        let task = self.task;
+        let put = task.put_up(gate, message);
+        let longer = put.task;
+        self.with(longer, self.ok & put.room)
     }
 
     fn to_task(self, task: TaskNo, message: Message) -> Self
         ensures { λ r. ⌜ r ≡ toTask self (task .0) message ⌝ }
     {
-        let mut sender = self.task;
-        let i = task.0 as usize;
-        if i < 16 {
-            let channel = sender.across[i];
-            let room = channel.count < 1;
-            let longer = channel.put(message);
-            sender.across[i] = longer;
-            return self.with(sender, self.ok & room);
-        }
-        self.with(sender, self.ok & true)
+        let sender = self.task;
+        let put = sender.put_across(task, message);
+        let longer = put.task;
+        self.with(longer, self.ok & put.room)
     }
 
     // The entry after those before it.

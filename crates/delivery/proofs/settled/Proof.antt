@@ -1,6 +1,6 @@
 -- `settled` meets its contract: each return has passed the tests before it, so that the entries find room.
-use borrow.Author.Tests.{lt-ltb, le-ltb}
 use borrow.Author.Needs.{needs}
+use borrow.Author.Tests.{lt-ltb, le-ltb}
 use Rattle.delivery.proofs.settled.Statement.{statement}
 use Rattle.delivery.proofs.settled.Tie as tie
 

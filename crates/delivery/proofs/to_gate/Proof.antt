@@ -1,6 +1,6 @@
 -- `to_gate` meets its contract: what the pop took is at the front, and each return has passed the tests before it.
-use Rattle.delivery.specs.Delivery.{toGate}
 use borrow.Author.Needs.{needs}
+use Rattle.delivery.specs.Delivery.{toGate}
 use Rattle.delivery.proofs.to_gate.Statement.{statement}
 use Rattle.delivery.proofs.to_gate.Tie as tie
 

@@ -1,6 +1,6 @@
 -- `to_task` meets its contract: what the pop took is at the front.
-use Rattle.delivery.specs.Delivery.{toTask}
 use borrow.Author.Needs.{needs}
+use Rattle.delivery.specs.Delivery.{toTask}
 use Rattle.delivery.proofs.to_task.Statement.{statement}
 use Rattle.delivery.proofs.to_task.Tie as tie
 
