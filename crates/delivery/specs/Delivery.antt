@@ -16,6 +16,7 @@ use Rattle.channels.specs.Channels.{noRequest}
 use Rattle.channels.specs.declared.Request.{Request}
 use Rattle.state.specs.States.{taskOf, gateOf, withTask, withGate, withLogged, popOf}
 use Rattle.state.specs.declared.State.{State}
+use Rattle.state.specs.declared.Link.{Link}
 use Rattle.state.specs.declared.Link.the-variants.{ToGate, FromGate, ToTask}
 use Rattle.state.specs.declared.Front.{Front}
 use Rattle.state.specs.declared.Front.the-variants.{Nothing, Oldest}
@@ -24,6 +25,8 @@ use Rattle.sound_state.specs.SoundState.{soundState}
 use Rattle.tasks.specs.Tasks.{atTask}
 use Rattle.gates.specs.Gates.{atGate}
 use Rattle.delivery.specs.declared.Delivered.{Delivered}
+use Rattle.delivery.specs.declared.Way.{Way}
+use Rattle.delivery.specs.declared.Way.the-variants.{Nowhere, Along}
 use Rattle.tasks.specs.declared.Work as task
 use Rattle.gates.specs.declared.Work as gate
 
@@ -74,6 +77,16 @@ abbrev pub settledAtGate : State → State → ℕ → gate.Work → Delivered
 settledAtGate s popped g w =
     cond (not (w .ok)) (record { state = s; answer = Excluded }) (record { state = withGate popped g (w .gate); answer = Done })
 
+-- The channel from one endpoint to another. 8: "no such channel: endpoint absent, gate to gate, or from equals to"
+abbrev pub wayOf : Endpoint → Endpoint → Way
+wayOf Nobody e = Nowhere
+wayOf (Task a) Nobody = Nowhere
+wayOf (Task a) (Task b) = cond (eqb (a .0) (b .0)) Nowhere (Along (ToTask a b))
+wayOf (Task t) (Gate g) = Along (ToGate t g)
+wayOf (Gate g) Nobody = Nowhere
+wayOf (Gate g) (Task b) = Along (FromGate g b)
+wayOf (Gate g) (Gate h) = Nowhere
+
 -- "It takes the oldest message of the channel named": what is at the front, and the state popped without it.
 -- From task t to gate g; no entry is written there.
 module _ (vectors masks : List ℕ) (s : State) (t g : ℕ) where
@@ -93,16 +106,18 @@ module _ (moves masks : List ℕ) (gates : ℕ) (s : State) (log : List ℕ) whe
   unfoldable pub toTask : ℕ → Popped → Outcome
   toTask b taken = frontAtTask b (taken .state) (taken .front)
 
-  -- 8: "endpoint absent, gate to gate, or from equals to"
-  abbrev pub between : List ℕ → Endpoint → Endpoint → Outcome
-  between vectors Nobody e = refused s log NoChannel
-  between vectors (Task a) Nobody = refused s log NoChannel
-  between vectors (Task a) (Task b) =
-      cond (eqb (a .0) (b .0)) (refused s log NoChannel) (toTask (b .0) (popOf s (ToTask a b)))
-  between vectors (Task t) (Gate g) = withLog log (toGate vectors masks s (t .0) (g .0) (popOf s (ToGate t g)))
-  between vectors (Gate g) Nobody = refused s log NoChannel
-  between vectors (Gate g) (Task b) = toTask (b .0) (popOf s (FromGate g b))
-  between vectors (Gate g) (Gate h) = refused s log NoChannel
+  -- The oldest message of a channel, at its receiver.
+  abbrev pub along : List ℕ → Link → Outcome
+  along vectors (ToGate t g) = withLog log (toGate vectors masks s (t .0) (g .0) (popOf s (ToGate t g)))
+  along vectors (FromGate g b) = toTask (b .0) (popOf s (FromGate g b))
+  along vectors (ToTask a b) = toTask (b .0) (popOf s (ToTask a b))
+
+  abbrev pub wayTaken : List ℕ → Way → Outcome
+  wayTaken vectors Nowhere = refused s log NoChannel
+  wayTaken vectors (Along link) = along vectors link
+
+  unfoldable pub between : List ℕ → Endpoint → Endpoint → Outcome
+  between vectors from to = wayTaken vectors (wayOf from to)
 
 -- 11: the table, the state, and the log count against the capacity of a log of n bytes
 unfoldable pub soundFor : Table → State → ℕ → Bool

@@ -13,13 +13,42 @@ ghost use mathlib.Core.Path.{_≡_};
 ghost use Prim.Native.Nat.{_+_, _-_, _*_, _/_, _≤_, _<_};
 ghost use lib.ListN.{getD, length};
 ghost use Rattle.channels.specs.Channels.{noRequest};
-ghost use Rattle.numbers.specs.Endpoints.{InRange};
-ghost use Rattle.delivery.specs.Delivery.{entered, written, settledAtTask, toGate, toTask, between, result, soundFor, delivered};
+ghost use Rattle.delivery.specs.Delivery.{entered, written, settledAtTask, wayOf, toGate, toTask, along, result, soundFor, delivered};
 ghost use Rattle.state.specs.States.{popOf};
+ghost use Rattle.delivery.specs.Within.{LinkWithin};
 
 pub struct Delivered {
     pub state: State,
     pub answer: Answer,
+}
+
+// The channel between two endpoints, if there is one.
+pub enum Way {
+    Nowhere,
+    Along(Link),
+}
+
+pub fn way_between(from: Endpoint, to: Endpoint) -> Way
+    ensures { λ r. ⌜ r ≡ wayOf from to ⌝ }
+{
+    match from {
+        Endpoint::Nobody => Way::Nowhere,
+        Endpoint::Task(a) => match to {
+            Endpoint::Nobody => Way::Nowhere,
+            Endpoint::Task(b) => {
+                if a.0 == b.0 {
+                    return Way::Nowhere;
+                }
+                Way::Along(Link::ToTask(a, b))
+            }
+            Endpoint::Gate(g) => Way::Along(Link::ToGate(a, g)),
+        },
+        Endpoint::Gate(g) => match to {
+            Endpoint::Nobody => Way::Nowhere,
+            Endpoint::Task(b) => Way::Along(Link::FromGate(g, b)),
+            Endpoint::Gate(_) => Way::Nowhere,
+        },
+    }
 }
 
 // One entry, two bytes.
@@ -156,53 +185,24 @@ fn settled(s: State, mut popped: State, log: &mut [u8], b: TaskNo, w: Work) -> D
     }
 }
 
-// A delivery where table, state and log are known to be sound.
-fn between<'a>(
+// The oldest message of a channel, at its receiver.
+fn along<'a>(
     moves: &'a [u8],
     vectors: &'a [u8],
     masks: &'a [u16],
     gates: u8,
     s: State,
     log: &'a mut [u8],
-    from: Endpoint,
-    to: Endpoint,
+    link: Link,
 ) -> Delivered
-    requires { ⌜ (InRange from) × (InRange to) × (s .logged ≤ length (now log) / 2) ⌝ }
-    ensures state { λ r. ⌜ r ≡ result (between (now (moves .entry)) (now (masks .entry)) gates s (now (log .entry)) (now (vectors .entry)) from to) ⌝ }
-    ensures bytes { λ _. ⌜ now (log .exit) ≡ between (now (moves .entry)) (now (masks .entry)) gates s (now (log .entry)) (now (vectors .entry)) from to .log ⌝ }
+    requires { ⌜ (LinkWithin 16 16 link) × (s .logged ≤ length (now log) / 2) ⌝ }
+    ensures state { λ r. ⌜ r ≡ result (along (now (moves .entry)) (now (masks .entry)) gates s (now (log .entry)) (now (vectors .entry)) link) ⌝ }
+    ensures bytes { λ _. ⌜ now (log .exit) ≡ along (now (moves .entry)) (now (masks .entry)) gates s (now (log .entry)) (now (vectors .entry)) link .log ⌝ }
 {
-    match from {
-        Endpoint::Nobody => Delivered {
-            state: s,
-            answer: Answer::NoChannel,
-        },
-        Endpoint::Task(a) => match to {
-            Endpoint::Nobody => Delivered {
-                state: s,
-                answer: Answer::NoChannel,
-            },
-            Endpoint::Task(b) => {
-                if a.0 == b.0 {
-                    return Delivered {
-                        state: s,
-                        answer: Answer::NoChannel,
-                    };
-                }
-                to_task(moves, masks, gates, s, log, Link::ToTask(a, b), b)
-            }
-            Endpoint::Gate(g) => to_gate(vectors, masks, s, Link::ToGate(a, g), a, g),
-        },
-        Endpoint::Gate(g) => match to {
-            Endpoint::Nobody => Delivered {
-                state: s,
-                answer: Answer::NoChannel,
-            },
-            Endpoint::Task(b) => to_task(moves, masks, gates, s, log, Link::FromGate(g, b), b),
-            Endpoint::Gate(_) => Delivered {
-                state: s,
-                answer: Answer::NoChannel,
-            },
-        },
+    match link {
+        Link::ToGate(t, g) => to_gate(vectors, masks, s, Link::ToGate(t, g), t, g),
+        Link::FromGate(g, b) => to_task(moves, masks, gates, s, log, Link::FromGate(g, b), b),
+        Link::ToTask(a, b) => to_task(moves, masks, gates, s, log, Link::ToTask(a, b), b),
     }
 }
 
@@ -234,14 +234,19 @@ pub fn deliver<'a>(table: Table, s: State, log: &'a mut [u8], from: u8, to: u8) 
     }
     let a = numbers::resolve(table.tasks, table.gates, from);
     let b = numbers::resolve(table.tasks, table.gates, to);
-    between(
-        &table.moves,
-        &table.vectors,
-        &table.masks,
-        table.gates,
-        s,
-        log,
-        a,
-        b,
-    )
+    match way_between(a, b) {
+        Way::Nowhere => Delivered {
+            state: s,
+            answer: Answer::NoChannel,
+        },
+        Way::Along(link) => along(
+            &table.moves,
+            &table.vectors,
+            &table.masks,
+            table.gates,
+            s,
+            log,
+            link,
+        ),
+    }
 }

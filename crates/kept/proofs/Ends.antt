@@ -9,21 +9,25 @@ use borrow.Author.Tests.{ltb-true, ltb-false, eqb-false}
 use Rattle.answers.specs.Answers.{isDone}
 use Rattle.answers.specs.declared.Answer.{Answer}
 use Rattle.answers.specs.declared.Answer.the-variants.{Done, NoChannel, ChannelEmpty, LogFull, Unsound, Excluded}
-use Rattle.numbers.specs.Endpoints.{endpointOf}
-use Rattle.numbers.specs.declared.Endpoint.{Endpoint}
-use Rattle.numbers.specs.declared.Endpoint.the-variants.{Nobody, Task, Gate}
-use Rattle.table.specs.declared.Table.{Table}
 use Rattle.channels.specs.Channels.{empty1, popped3}
 use Rattle.channels.specs.declared.Message.{Message}
-use Rattle.state.specs.States.{taskOf, gateOf, upOf, acrossOf, downOf, withTask, withGate, withLogged, withUp, withAcross, withDown, frontOf, popOf}
-use Rattle.state.specs.declared.State.{State}
-use Rattle.state.specs.declared.Front.the-variants.{Nothing, Oldest}
-use Rattle.state.specs.declared.Link.the-variants.{ToTask}
-use Rattle.tasks.specs.Tasks.{atTask}
-use Rattle.tasks.specs.declared.Work as task
+use Rattle.delivery.proofs.Ways.{way-within}
+use Rattle.delivery.specs.Delivery.{Outcome, withLog, refused, written, settledAtTask, settledAtGate, wayOf, frontAtGate, toGate, frontAtTask, toTask, along, wayTaken, between, sound, delivered}
+use Rattle.delivery.specs.Within.{EndWithin, LinkWithin, WayWithin}
+use Rattle.delivery.specs.declared.Way.{Way}
+use Rattle.delivery.specs.declared.Way.the-variants.{Nowhere, Along}
 use Rattle.gates.specs.Gates.{atGate}
 use Rattle.gates.specs.declared.Work as gate
-use Rattle.delivery.specs.Delivery.{Outcome, withLog, refused, written, settledAtTask, settledAtGate, frontAtGate, toGate, frontAtTask, toTask, between, sound, delivered}
+use Rattle.numbers.specs.Endpoints.{endpointOf}
+use Rattle.numbers.specs.declared.Endpoint.the-variants.{Nobody, Task, Gate}
+use Rattle.state.specs.States.{taskOf, gateOf, upOf, acrossOf, downOf, withTask, withGate, withLogged, withUp, withAcross, withDown, frontOf}
+use Rattle.state.specs.declared.Front.the-variants.{Nothing, Oldest}
+use Rattle.state.specs.declared.Link.{Link}
+use Rattle.state.specs.declared.Link.the-variants.{ToGate, FromGate, ToTask}
+use Rattle.state.specs.declared.State.{State}
+use Rattle.table.specs.declared.Table.{Table}
+use Rattle.tasks.specs.Tasks.{atTask}
+use Rattle.tasks.specs.declared.Work as task
 
 -- the state without the message, for each pair of parties
 module _ (s : State) where
@@ -72,16 +76,11 @@ pub data Ends (T : Table) (s : State) (log : List ℕ) : Outcome → Type 0 wher
       → HasRoom s log (downWork T s g b) → Ends T s log (doneAtTask s (downPopped s g b) log b (downWork T s g b))
 
 -- who stands at an endpoint is present
-abbrev pub isPresent : Table → Endpoint → Type 0
-isPresent T Nobody = Unit
-isPresent T (Task t) = t .0 < T .tasks
-isPresent T (Gate g) = g .0 < T .gates
-
-present : (T : Table) (e : ℕ) → isPresent T (endpointOf (T .tasks) (T .gates) e)
+present : (T : Table) (e : ℕ) → EndWithin (T .tasks) (T .gates) (endpointOf (T .tasks) (T .gates) e)
 present T e = turn (ltb e 16) (ltb e (T .tasks)) (ltb e 32) (ltb (e - 16) (T .gates)) refl refl
   where
     turn : (a b c d : Bool) → ltb e (T .tasks) ≡ b → ltb (e - 16) (T .gates) ≡ d
-        → isPresent T (cond a (cond b (Task (record { 0 = e })) Nobody)
+        → EndWithin (T .tasks) (T .gates) (cond a (cond b (Task (record { 0 = e })) Nobody)
         (cond c (cond d (Gate (record { 0 = e - 16 })) Nobody) Nobody))
     turn true true c d p q = ltb-true e (T .tasks) p
     turn true false c d p q = tt
@@ -131,35 +130,31 @@ module _ (T : Table) (s : State) (log : List ℕ) (h : sound T s log ≡ true) w
       turn true = refuses ChannelEmpty refl
       turn false = e
 
-  between-ends : (x y : Endpoint) → isPresent T x → isPresent T y → Ends T s log (between (T .moves) (T .masks) (T .gates) s log (T .vectors) x y)
+  along-ends : (link : Link) → LinkWithin (T .tasks) (T .gates) link
+      → Ends T s log (along (T .moves) (T .masks) (T .gates) s log (T .vectors) link)
   unfolding toGate toTask
-  between-ends Nobody y p q = refuses NoChannel refl
-  between-ends (Task a) Nobody p q = refuses NoChannel refl
-  between-ends (Task a) (Task b) p q = turn (eqb (a .0) (b .0))
-    where
-      turn : (x : Bool) → Ends T s log (cond x (refused s log NoChannel) (toTask (T .moves) (T .masks) (T .gates) s log (b .0) (popOf s (ToTask a b))))
-      turn true = refuses NoChannel refl
-      turn false = found (acrossOf (taskOf s (a .0)) (b .0) .count) _ (acrossPopped s (a .0) (b .0)) (b .0) (λ n.
-          at-task-ends (acrossPopped s (a .0) (b .0)) (b .0) (acrossWork T s (a .0) (b .0))
-          (to-task (a .0) (b .0) h p q n))
-  between-ends (Task t) (Gate g) p q =
-      found-at-gate (upOf (taskOf s (t .0)) (g .0) .count) _ (upPopped s (t .0) (g .0)) (t .0) (g .0)
-      (at-gate-ends (upPopped s (t .0) (g .0)) (g .0) (upWork T s (t .0) (g .0)) (to-gate (t .0) (g .0) h p q))
-  between-ends (Gate g) Nobody p q = refuses NoChannel refl
-  between-ends (Gate g) (Task b) p q =
-      found (downOf (gateOf s (g .0)) (b .0) .count) _ (downPopped s (g .0) (b .0)) (b .0) (λ n.
-      at-task-ends (downPopped s (g .0) (b .0)) (b .0) (downWork T s (g .0) (b .0)) (from-gate (g .0) (b .0) h p q n))
-  between-ends (Gate g) (Gate k) p q = refuses NoChannel refl
+  along-ends (ToGate t g) w = found-at-gate (upOf (taskOf s (t .0)) (g .0) .count) _ (upPopped s (t .0) (g .0)) (t .0) (g .0)
+      (at-gate-ends (upPopped s (t .0) (g .0)) (g .0) (upWork T s (t .0) (g .0)) (to-gate (t .0) (g .0) h (w .0) (w .1)))
+  along-ends (FromGate g b) w = found (downOf (gateOf s (g .0)) (b .0) .count) _ (downPopped s (g .0) (b .0)) (b .0) (λ n.
+      at-task-ends (downPopped s (g .0) (b .0)) (b .0) (downWork T s (g .0) (b .0))
+      (from-gate (g .0) (b .0) h (w .0) (w .1) n))
+  along-ends (ToTask a b) w = found (acrossOf (taskOf s (a .0)) (b .0) .count) _ (acrossPopped s (a .0) (b .0)) (b .0) (λ n.
+      at-task-ends (acrossPopped s (a .0) (b .0)) (b .0) (acrossWork T s (a .0) (b .0))
+      (to-task (a .0) (b .0) h (w .0) (w .1) n))
+
+  way-ends : (way : Way) → WayWithin (T .tasks) (T .gates) way → Ends T s log (wayTaken (T .moves) (T .masks) (T .gates) s log (T .vectors) way)
+  way-ends Nowhere w = refuses NoChannel refl
+  way-ends (Along link) w = along-ends link w
 
 pub ends : (T : Table) (s : State) (log : List ℕ) (from to : ℕ) → Ends T s log (delivered T s log from to)
-unfolding delivered
+unfolding delivered between
 ends T s log from to = turn (sound T s log) refl
   where
     turn : (b : Bool) → sound T s log ≡ b
         → Ends T s log (cond (not b) (refused s log Unsound)
         (between (T .moves) (T .masks) (T .gates) s log (T .vectors) (endpointOf (T .tasks) (T .gates) from) (endpointOf (T .tasks) (T .gates) to)))
-    turn true h = between-ends T s log h (endpointOf (T .tasks) (T .gates) from) (endpointOf (T .tasks) (T .gates) to)
-        (present T from) (present T to)
+    turn true h = way-ends T s log h (wayOf (endpointOf (T .tasks) (T .gates) from) (endpointOf (T .tasks) (T .gates) to))
+        (way-within (T .tasks) (T .gates) (endpointOf (T .tasks) (T .gates) from) (endpointOf (T .tasks) (T .gates) to) (present T from) (present T to))
     turn false h = refuses Unsound refl
 
 unchanged : (T : Table) (s : State) (log : List ℕ) (o : Outcome) → Ends T s log o → isDone (o .answer) ≡ false

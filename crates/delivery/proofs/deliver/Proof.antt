@@ -1,12 +1,14 @@
--- `deliver` meets its contract: 11 first; then the endpoints lie in range and the count within the capacity.
+-- `deliver` meets its contract: 11 first; then the way, whose parties were resolved and lie within 16.
 use mathlib.Core.Path.{sym, _∙_, subst}
 use lib.ListN.{length}
 use borrow.Author.Needs.{needs}
 use borrow.Author.Tests.{not-false}
-use Rattle.delivery.specs.Delivery.{delivered}
+use Rattle.delivery.specs.Delivery.{delivered, between, wayOf}
+use Rattle.delivery.specs.Within.{WayWithin}
 use Rattle.numbers.proofs.Resolved.{in-range}
 use Rattle.numbers.specs.Endpoints.{InRange}
 use Rattle.delivery.proofs.Counted.{count-fits}
+use Rattle.delivery.proofs.Ways.{way-within, end-within}
 use Rattle.delivery.proofs.deliver.Statement.{statement}
 use Rattle.delivery.proofs.deliver.Tie as tie
 
@@ -23,46 +25,41 @@ resolve-requires c κs = search needs
 resolve-requires-2 : tie.Need-resolve-requires-2
 resolve-requires-2 c κs = search needs
 
-between-requires : tie.Need-between-requires
-between-requires c κs =
-    let a =
-    c .before .before .before .before .before .before .before .before .before .before .before .before .before .args in (
-      subst InRange (sym (c .before .before .before .before .before .before .before .before .before .resolve .ensures))
-          (in-range (a .t1 .tasks) (a .t1 .gates) (a .from)),
-      subst InRange (sym (c .before .before .before .before .before .before .before .before .resolve2 .ensures))
-          (in-range (a .t1 .tasks) (a .t1 .gates) (a .to)),
+way-between-requires : tie.Need-way-between-requires
+way-between-requires c κs = search needs
+
+enum-told : tie.Need-enum-told
+enum-told c = search needs
+
+enum-known-link : tie.Need-enum-known-link
+enum-known-link c = search needs
+
+along-requires : tie.Need-along-requires
+along-requires c κs =
+    let a = c .before .before .before .before .before .before .before .before .before .before .before .before .before .before .before .before .before .args in
+    let n = a .t1 .tasks in
+    let m = a .t1 .gates in
+    let x = c .before .before .before .before .before .before .before .before .before .before .before .before .before .resolve in
+    let y = c .before .before .before .before .before .before .before .before .before .before .before .before .resolve2 in
+    let known : WayWithin 16 16 (wayOf (x .result) (y .result)) =
+    way-within 16 16 (x .result) (y .result)
+    (end-within (x .result) (subst InRange (sym (x .ensures)) (in-range n m (a .from))))
+    (end-within (y .result) (subst InRange (sym (y .ensures)) (in-range n m (a .to)))) in (
+      subst (WayWithin 16 16) (sym (c .before .before .before .before .before .before .before .before .before .before .before .way-between .ensures) ∙ c .before .before .before .before .before .before .before .before .before .link .given .1) known,
       count-fits (a .t1) (a .s) (length (a .log .now))
-          (sym (c .before .before .before .before .before .before .before .before .before .before .before .is-sound .ensures)
-          ∙ not-false
-          (c .before .before .before .before .before .before .before .before .before .before .before .is-sound
-          .result) (c .before .before .before .before .before .before .before .before .before .before .if1 .left)),
+          (sym (c .before .before .before .before .before .before .before .before .before .before .before .before .before .before .before .is-sound .ensures) ∙ not-false (c .before .before .before .before .before .before .before .before .before .before .before .before .before .before .before .is-sound .result) (c .before .before .before .before .before .before .before .before .before .before .before .before .before .before .if1 .left)),
     )
+
+returns-2 : tie.Need-returns-2
+unfolding delivered between
+returns-2 c = (rw (← c .before .before .before .before .before .before .is-sound .ensures, c .before .before .before .before .before .if1 .left, ← c .before .before .before .before .resolve .ensures, ← c .before .before .before .resolve2 .ensures, ← c .before .before .way-between .ensures, c .enum-told .given .1), rw (← c .before .before .before .before .before .before .is-sound .ensures, c .before .before .before .before .before .if1 .left, ← c .before .before .before .before .resolve .ensures, ← c .before .before .before .resolve2 .ensures, ← c .before .before .way-between .ensures, c .enum-told .given .1))
 
 same-length : tie.Need-same-length
 same-length c = search needs
 
-returns-2 : tie.Need-returns-2
-unfolding delivered
-returns-2 c = (
-  rw (
-    ← c .before .before .before .before .before .before .before .before .before .before .before .before .before
-        .before .is-sound .ensures,
-    c .before .before .before .before .before .before .before .before .before .before .before .before .before .if1
-        .left,
-    ← c .before .before .before .before .before .before .before .before .before .before .before .before .resolve
-        .ensures,
-    ← c .before .before .before .before .before .before .before .before .before .before .before .resolve2 .ensures,
-  ) (c .before .before .between .ensures .0),
-  rw (
-    ← c .before .before .before .before .before .before .before .before .before .before .before .before .before
-        .before .is-sound .ensures,
-    c .before .before .before .before .before .before .before .before .before .before .before .before .before .if1
-        .left,
-    ← c .before .before .before .before .before .before .before .before .before .before .before .before .resolve
-        .ensures,
-    ← c .before .before .before .before .before .before .before .before .before .before .before .resolve2 .ensures,
-  ) (c .before .before .between .ensures .1),
-)
+returns-3 : tie.Need-returns-3
+unfolding delivered between
+returns-3 c = (rw (← c .before .before .before .before .before .before .before .before .before .before .before .before .before .before .before .before .before .before .is-sound .ensures, c .before .before .before .before .before .before .before .before .before .before .before .before .before .before .before .before .before .if1 .left, ← c .before .before .before .before .before .before .before .before .before .before .before .before .before .before .before .before .resolve .ensures, ← c .before .before .before .before .before .before .before .before .before .before .before .before .before .before .before .resolve2 .ensures, ← c .before .before .before .before .before .before .before .before .before .before .before .before .before .before .way-between .ensures, c .before .before .before .before .before .before .before .before .before .before .before .before .link .given .1) (c .before .before .along .ensures .0), rw (← c .before .before .before .before .before .before .before .before .before .before .before .before .before .before .before .before .before .before .is-sound .ensures, c .before .before .before .before .before .before .before .before .before .before .before .before .before .before .before .before .before .if1 .left, ← c .before .before .before .before .before .before .before .before .before .before .before .before .before .before .before .before .resolve .ensures, ← c .before .before .before .before .before .before .before .before .before .before .before .before .before .before .before .resolve2 .ensures, ← c .before .before .before .before .before .before .before .before .before .before .before .before .before .before .way-between .ensures, c .before .before .before .before .before .before .before .before .before .before .before .before .link .given .1) (c .before .before .along .ensures .1))
 
 pub deliver-spec : {M : Type 1} → statement M
 deliver-spec =
@@ -72,6 +69,10 @@ deliver-spec =
     returns
     resolve-requires
     resolve-requires-2
-    between-requires
+    way-between-requires
+    enum-told
+    enum-known-link
+    along-requires
+    returns-2
     same-length
-    returns-2)
+    returns-3)
