@@ -1,17 +1,16 @@
 -- Laws of `allBelow` and of `allFrom`: a turn more, the end, and what an outcome says.
-use Prim.Native.Nat.{ℕ, suc, zero, _+_, _<_, _≤_}
-use mathlib.Core.Bool.{Bool, true, false, _&&_, and-comm}
-use mathlib.Core.List.{List}
+use Prim.Native.Nat.{ℕ, suc, zero, _+_, _*_, _<_}
+use mathlib.Core.Bool.{Bool, true, false, _&&_, and-true, and-comm}
+use mathlib.Core.List.{List, [], _∷_}
 use mathlib.Core.Logic.{⊎-elim}
 use mathlib.Core.Path.{_≡_, refl, sym, ap, _∙_}
-use native.Mathlib.Nat.{eq-or-lt-of-le, le-of-suc-le-suc, add-suc, add-zero, zero-add}
-use native.Mathlib.Numerals.{add-one}
+use native.Mathlib.Nat.{eq-or-lt-of-le, le-of-suc-le-suc, add-suc, add-zero, zero-add, suc-add, zero-mul, suc-mul}
+use native.Mathlib.Numerals.{add-one, one-add}
 use native.Mathlib.Omega.{arith}
-use lib.ListN.{length, getD, drop, drop-of-length-le}
-use lib.Seq.{drop-cons}
+use lib.ListN.{length, getD}
 use Rattle.laws.specs.Below.{allBelow}
 use Rattle.laws.specs.Each.{allFrom}
-use Rattle.laws.proofs.Tests.{and-left, and-right, and-true, and-false-right}
+use Rattle.laws.proofs.Tests.{and-left, and-right, and-false-right, and-assoc}
 
 pub below-none : (P : ℕ → Bool) → allBelow 0 P ≡ true
 unfolding allBelow
@@ -57,30 +56,32 @@ unfolding allBelow
 below-same zero P Q h = refl
 below-same (suc n) P Q h = rw (h n (omega arith), below-same n P Q (λ (k : ℕ) (l : k < n). h k (omega arith)))
 
--- the next n elements of a list from i on are tested by index
-pub each-part : (P : ℕ → ℕ → Bool) (l : List ℕ) (i n : ℕ) → i + n ≤ length l
-    → allFrom P i (drop i l) ≡ (allBelow n (λ (k : ℕ). P (i + k) (getD l (i + k) 0)) && allFrom P (i + n) (drop (i + n) l))
-unfolding allBelow allFrom
-each-part P l i zero h = rw add-zero
-each-part P l i (suc n) h =
-    each-part P l i n (omega arith)
-    ∙ rw (drop-cons l (i + n) 0 (omega arith), add-suc i n) (swap (allBelow n (λ (k : ℕ). P (i + k) (getD l (i + k) 0))) (P (i + n) (getD l (i + n) 0)) (allFrom P (suc (i + n)) (drop (suc (i + n)) l)))
-  where
-    swap : (a b c : Bool) → (a && (b && c)) ≡ ((b && a) && c)
-    swap true b c = rw (and-comm b true)
-    swap false b c = rw (and-comm b false)
+-- the first m, and the next n
+pub below-add : (m n : ℕ) (P : ℕ → Bool) → allBelow (m + n) P ≡ (allBelow n (λ (k : ℕ). P (m + k)) && allBelow m P)
+unfolding allBelow
+below-add m zero P = rw add-zero
+below-add m (suc n) P =
+    rw (add-suc m n, below-add m n P) (sym (and-assoc (P (m + n)) (allBelow n (λ (k : ℕ). P (m + k))) (allBelow m P)))
 
-pub each-none : (P : ℕ → ℕ → Bool) (l : List ℕ) (i : ℕ) → length l ≤ i → allFrom P i (drop i l) ≡ true
-unfolding allFrom
-each-none P l i h = rw (drop-of-length-le l h)
+-- n rows of m
+pub below-rows : (n m : ℕ) (P : ℕ → Bool) → allBelow (n * m) P ≡ allBelow n (λ (i : ℕ). allBelow m (λ (j : ℕ). P (i * m + j)))
+unfolding allBelow
+below-rows zero m P = rw zero-mul
+below-rows (suc n) m P = rw (suc-mul n m, below-add (n * m) m P, below-rows n m P)
+
+-- a list's elements are tested by index
+pub each-below : (P : ℕ → ℕ → Bool) (l : List ℕ) → allFrom P 0 l ≡ allBelow (length l) (λ (k : ℕ). P k (getD l k 0))
+unfolding allBelow allFrom
+each-below P l = simp zero-add at (from 0 l)
+  where
+    from : (i : ℕ) (l : List ℕ) → allFrom P i l ≡ allBelow (length l) (λ (k : ℕ). P (i + k) (getD l k 0))
+    from i [] = refl
+    from i (x ∷ xs) =
+        simp (from (suc i) xs, suc-add, and-comm (P i x))
+        (simp (one-add, add-suc, add-zero, and-true) at (sym (below-add 1 (length xs) (λ (k : ℕ). P (i + k) (getD (x ∷ xs) k 0)))))
 
 pub each-of : (P : ℕ → ℕ → Bool) (l : List ℕ) → ((i : ℕ) → i < length l → P i (getD l i 0) ≡ true) → allFrom P 0 l ≡ true
-each-of P l h =
-    each-part P l 0 (length l) (omega arith)
-    ∙ and-true _ _ (below-of (length l) _ (λ (k : ℕ) (m : k < length l). rw zero-add (h k m)))
-    (each-none P l (0 + length l) (omega arith))
+each-of P l h = each-below P l ∙ below-of (length l) _ h
 
 pub each-at : (P : ℕ → ℕ → Bool) (l : List ℕ) → allFrom P 0 l ≡ true → (i : ℕ) → i < length l → P i (getD l i 0) ≡ true
-each-at P l h i m =
-    rw zero-add at (below-at (length l) (λ (k : ℕ). P (0 + k) (getD l (0 + k) 0))
-    (and-left _ _ (sym (each-part P l 0 (length l) (omega arith)) ∙ h)) i m)
+each-at P l h = below-at (length l) _ (sym (each-below P l) ∙ h)

@@ -1,55 +1,56 @@
--- The moves by rows: the 16 cells of a task and state are one part of the pass over all cells.
+-- The moves by rows: the pass over all cells is one over the tasks, their states and the gates.
 use Prim.Native.Nat.{ℕ, _+_, _*_, _/_, _%_, _<_}
 use mathlib.Core.Bool.{Bool, true, false, cond, _&&_}
 use mathlib.Core.List.{List}
-use mathlib.Core.Path.{_≡_, refl, ap, _∙_}
+use mathlib.Core.Path.{_≡_, ap, _∙_}
 use native.Mathlib.Omega.{arith}
 use lib.Dec.{ltb, leb}
-use lib.ListN.{getD, length, drop}
+use lib.ListN.{getD, length, replicate}
 use Rattle.laws.specs.Below.{allBelow}
-use Rattle.laws.specs.Each.{allFrom}
-use Rattle.laws.proofs.Numbers.{below-same, each-part}
+use Rattle.laws.proofs.Numbers.{below-same, below-rows, each-below}
+use Rattle.laws.proofs.Stores.{zero-at}
+use Rattle.table.specs.Tables.{cellOf}
 use Rattle.table.specs.declared.Table.{Table}
-use Rattle.soundness.specs.Sound.{mostAt, moveSound}
-
--- what is left to test from a row on
-abbrev pub rest : Table → ℕ → Bool
-rest T row = allFrom (moveSound T) (row * 16) (drop (row * 16) (T .moves))
+use Rattle.soundness.specs.Sound.{mostAt, moveSound, movesSound}
 
 -- the cell of a row at gate g
-abbrev pub cellFits : List ℕ → ℕ → ℕ → ℕ → ℕ → Bool
-cellFits moves row most gates g = leb (getD moves (row * 16 + g) 0) (cond (ltb g gates) most 0)
+abbrev pub cellFits : List ℕ → ℕ → List ℕ → ℕ → Bool
+cellFits moves row limits g = leb (getD moves (row * 16 + g) 0) (getD limits g 0)
 
-abbrev pub mostFrom : Table → ℕ → ℕ
-mostFrom T row = cond (ltb (row % 16) (getD (T .states) (row / 16) 0)) (getD (T .states) (row / 16) 0) 0
+-- the row of task t and state x
+abbrev pub rowFits : List ℕ → ℕ → ℕ → List ℕ → ℕ → Bool
+rowFits moves t states limits x = allBelow 16 (cellFits moves (t * 16 + x) (cond (ltb x states) limits (replicate 16 0)))
 
-both : (a b : Bool) (n : ℕ) → cond (a && b) n 0 ≡ cond b (cond a n 0) 0
-both true b n = refl
-both false true n = refl
-both false false n = refl
+-- the moves of task t
+abbrev pub movesFit : Table → ℕ → Bool
+movesFit T t = allBelow 16 (λ (x : ℕ). allBelow 16 (λ (g : ℕ). leb (getD (T .moves) (cellOf t x g) 0) (mostAt T t x g)))
 
-turned : (r ok rest : Bool) → ((r && ok) && rest) ≡ (ok && (r && rest))
-turned true ok rest = refl
-turned false true rest = refl
-turned false false rest = refl
+pub cell-sound : (T : Table) (t x g n : ℕ) → x < 16 → g < 16 → moveSound T (cellOf t x g) n ≡ leb n (mostAt T t x g)
+cell-sound T t x g n hx hg =
+    let a : cellOf t x g / 256 ≡ t = omega arith in
+    let b : cellOf t x g / 16 % 16 ≡ x = omega arith in
+    let c : cellOf t x g % 16 ≡ g = omega arith in
+    rw (a, b, c)
 
-same-cell : (T : Table) (row g : ℕ) → g < 16 → moveSound T (row * 16 + g) (getD (T .moves) (row * 16 + g) 0) ≡ cellFits (T .moves) row (mostFrom T row) (T .gates) g
-same-cell T row g h =
-    let d : (row * 16 + g) / 16 ≡ row = omega arith in
-    let t : (row * 16 + g) / 256 ≡ row / 16 = omega arith in
-    let m : (row * 16 + g) % 16 ≡ g = omega arith in
-    ap (leb (getD (T .moves) (row * 16 + g) 0))
-    (ap (λ (n : ℕ). mostAt T n ((row * 16 + g) / 16 % 16) ((row * 16 + g) % 16)) t
-    ∙ ap (λ (n : ℕ). mostAt T (row / 16) (n % 16) ((row * 16 + g) % 16)) d
-    ∙ ap (mostAt T (row / 16) (row % 16)) m
-    ∙ both (ltb (row % 16) (getD (T .states) (row / 16) 0)) (ltb g (T .gates)) (getD (T .states) (row / 16) 0))
+pub moves-by-task : (T : Table) → length (T .moves) ≡ 4096 → movesSound T ≡ allBelow 16 (movesFit T)
+unfolding movesSound
+moves-by-task T l =
+    let cell : ℕ → Bool = λ i. moveSound T i (getD (T .moves) i 0) in
+    each-below (moveSound T) (T .moves)
+    ∙ ap (λ (n : ℕ). allBelow n cell) l
+    ∙ below-rows 256 16 cell
+    ∙ below-rows 16 16 (λ (row : ℕ). allBelow 16 (λ (g : ℕ). cell (row * 16 + g)))
+    ∙ below-same 16 _ _ (λ (t : ℕ) (_ : t < 16). below-same 16 _ _ (λ (x : ℕ) (hx : x < 16). below-same 16 _ _
+    (λ (g : ℕ) (hg : g < 16). cell-sound T t x g (getD (T .moves) (cellOf t x g) 0) hx hg)))
 
-pub row-turn : (T : Table) (row : ℕ) (r ok whole : Bool) → row < 256 → length (T .moves) ≡ 4096
-    → r ≡ allBelow 16 (cellFits (T .moves) row (mostFrom T row) (T .gates))
-    → (ok && rest T row) ≡ whole → ((r && ok) && rest T (row + 1)) ≡ whole
-row-turn T row r ok whole h l e w =
-    let n : (row + 1) * 16 ≡ row * 16 + 16 = omega arith in
-    let p : rest T row ≡ (r && rest T (row + 1)) =
-    each-part (moveSound T) (T .moves) (row * 16) 16 (omega arith)
-    ∙ rw (e, n, below-same 16 _ _ (same-cell T row)) in
-    turned r ok (rest T (row + 1)) ∙ rw (← p) w
+-- limits by gate give those of `mostAt`
+pub rows-fit : (T : Table) (t : ℕ) (limits : List ℕ)
+    → ((g : ℕ) → g < 16 → getD limits g 0 ≡ cond (ltb g (T .gates)) (getD (T .states) t 0) 0)
+    → allBelow 16 (rowFits (T .moves) t (getD (T .states) t 0) limits) ≡ movesFit T t
+rows-fit T t limits h =
+    below-same 16 _ _ (λ (x : ℕ) (_ : x < 16). below-same 16 _ _ (λ (g : ℕ) (k : g < 16).
+    ap (leb (getD (T .moves) (cellOf t x g) 0)) (most (ltb x (getD (T .states) t 0)) g k)))
+  where
+    most : (b : Bool) (g : ℕ) → g < 16 → getD (cond b limits (replicate 16 0)) g 0 ≡ cond (b && ltb g (T .gates)) (getD (T .states) t 0) 0
+    most true g k = h g k
+    most false g k = zero-at 16 g

@@ -1,5 +1,5 @@
 -- What a sound table says of its parts, rule by rule.
-use Prim.Native.Nat.{ℕ, _+_, _/_, _%_, _<_, _≤_}
+use Prim.Native.Nat.{ℕ, _+_, _<_, _≤_}
 use mathlib.Core.Bool.{Bool, true, false, cond, _&&_, not}
 use mathlib.Core.Logic.{⊎-elim}
 use mathlib.Core.Path.{_≡_, refl, sym, ap, _∙_}
@@ -15,6 +15,7 @@ use Rattle.table.specs.Tables.{countIn, isCell, cellOf, moveOf, maskOf, newBelo
 use Rattle.table.specs.declared.Table.{Table}
 use Rattle.table.specs.declared.Move.the-variants.{To}
 use Rattle.table.proofs.Cells.{InRoom, in-room, entryOf, entry-at}
+use Rattle.soundness.proofs.Rows.{cell-sound}
 use Rattle.soundness.specs.Sound.{taskFits, taskSound, mostAt, moveSound, movesSound, vectorFits, gateSound, soundTable}
 
 pub record Rules (T : Table) : Type 0 where
@@ -65,10 +66,7 @@ unfolding movesSound
 move-of T h t x g hx hg = ⊎-elim
     (λ (l : length (T .moves) ≤ cellOf t x g). omega (arith, List·getD-eq-default (T .moves) 0 l))
     (λ (l : cellOf t x g < length (T .moves)).
-    let a : cellOf t x g / 256 ≡ t = omega arith in
-    let b : cellOf t x g / 16 % 16 ≡ x = omega arith in
-    let c : cellOf t x g % 16 ≡ g = omega arith in
-    leb-true _ _ (rw (a, b, c) at (each-at (moveSound T) (T .moves) h (cellOf t x g) l)))
+    leb-true _ _ (sym (cell-sound T t x g _ hx hg) ∙ each-at (moveSound T) (T .moves) h (cellOf t x g) l))
     (le-or-lt (length (T .moves)) (cellOf t x g))
 
 module _ (T : Table) (g : ℕ) (h : gateSound T g ≡ true) where

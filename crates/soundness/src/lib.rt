@@ -5,8 +5,9 @@ ghost use mathlib.Core.Bool.{cond};
 ghost use mathlib.Core.Path.{_≡_};
 ghost use Prim.Native.Nat.{ℕ, _+_, _*_, _<_};
 ghost use lib.Dec.{ltb, leb};
-ghost use lib.ListN.{getD};
+ghost use lib.ListN.{getD, replicate};
 ghost use Rattle.laws.specs.Below.{allBelow};
+ghost use Rattle.table.specs.Tables.{cellOf};
 ghost use Rattle.soundness.specs.Sound.{taskFits, taskSound, movesSound, vectorFits, gateSound, soundTable};
 
 pub fn sound(table: Table) -> bool
@@ -41,12 +42,22 @@ fn moves_sound(table: Table) -> bool
     ensures { λ r. ⌜ r ≡ movesSound table ⌝ }
 {
     let mut ok = true;
-    for row in 0..256 {
-        let states = table.states[row / 16];
-        let most = limit(row % 16 < states as usize, states);
-        ok = row_within(&table.moves, row, most, table.gates) & ok;
+    for t in 0..16 {
+        let states = table.states[t];
+        ok = rows_within(&table.moves, t, states, limits(table.gates, states)) & ok;
     }
     ok
+}
+
+// The most that a cell of each gate may hold.
+fn limits(gates: u8, most: u8) -> [u8; 16]
+    ensures { λ r. ⌜ ((g : ℕ) → g < 16 → getD r g 0 ≡ cond (ltb g gates) most 0) ⌝ }
+{
+    let mut limits = [0u8; 16];
+    for g in 0..16 {
+        limits[g] = limit(g < gates as usize, most);
+    }
+    limits
 }
 
 // The most that there may be, which is nothing outside.
@@ -56,16 +67,36 @@ fn limit(inside: bool, most: u8) -> u8
     if inside { most } else { 0 }
 }
 
-// The 16 cells of a task and state: none above the limit, and all 0 from the count of gates on.
-// There is no early exit, so that the cells are compared side by side.
-fn row_within(moves: &[u8; 4096], row: usize, most: u8, gates: u8) -> bool
+// The 16 rows of a task, one a state: a row past the task's states is all 0.
+fn rows_within(moves: &[u8; 4096], t: usize, states: u8, limits: [u8; 16]) -> bool
+    requires { ⌜ t < 16 ⌝ }
+    ensures { λ r. ⌜ r ≡ allBelow 16 (λ (x : ℕ). allBelow 16 (λ (g : ℕ). leb (getD (now (moves .entry)) (cellOf t x g) 0) (getD (cond (ltb x states) limits (replicate 16 0)) g 0))) ⌝ }
+{
+    let mut ok = true;
+    for x in 0..16 {
+        let most = chosen(x < states as usize, limits);
+        ok = row_within(moves, t * 16 + x, most) & ok;
+    }
+    ok
+}
+
+// The limits, which are all 0 outside.
+fn chosen(inside: bool, limits: [u8; 16]) -> [u8; 16]
+    ensures { λ r. ⌜ r ≡ cond inside limits (replicate 16 0) ⌝ }
+{
+    if inside { limits } else { [0u8; 16] }
+}
+
+// The 16 cells of a task and state, one a gate: none above its limit.
+// The limits are an array and there is no early exit, so that the cells are compared side by side.
+fn row_within(moves: &[u8; 4096], row: usize, limits: [u8; 16]) -> bool
     requires { ⌜ row < 256 ⌝ }
-    ensures { λ r. ⌜ r ≡ allBelow 16 (λ (g : ℕ). leb (getD (now (moves .entry)) (row * 16 + g) 0) (cond (ltb g gates) most 0)) ⌝ }
+    ensures { λ r. ⌜ r ≡ allBelow 16 (λ (g : ℕ). leb (getD (now (moves .entry)) (row * 16 + g) 0) (getD limits g 0)) ⌝ }
 {
     let mut ok = true;
     for g in 0..16 {
         let cell = moves[row * 16 + g];
-        ok = (cell <= limit(g < gates as usize, most)) & ok;
+        ok = (cell <= limits[g]) & ok;
     }
     ok
 }

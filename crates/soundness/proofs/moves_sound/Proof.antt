@@ -1,40 +1,34 @@
--- `moves_sound` meets its contract: the rows so far and the rest of the pass give the whole (`row-turn`).
-use Prim.Native.Nat.{_*_, _-_, _≤_}
-use mathlib.Core.Bool.{Bool, true, _&&_, and-comm}
-use mathlib.Core.Path.{_≡_, sym, _∙_, ap}
+-- `moves_sound` meets its contract: the flag is the test of the tasks so far.
+use Prim.Native.Nat.{_-_, _≤_}
+use mathlib.Core.Path.{_≡_, sym, _∙_}
 use native.Mathlib.Omega.{arith}
-use lib.ListN.{length}
 use borrow.Author.Needs.{needs}
-use Rattle.laws.proofs.Numbers.{each-none}
-use Rattle.soundness.specs.Sound.{moveSound, movesSound}
-use Rattle.soundness.proofs.Rows.{rest, row-turn}
+use Rattle.laws.proofs.Numbers.{below-none, below-turn}
+use Rattle.laws.specs.Below.{allBelow}
+use Rattle.soundness.proofs.Rows.{movesFit, moves-by-task, rows-fit}
 use Rattle.soundness.proofs.moves_sound.Statement.{statement}
 use Rattle.soundness.proofs.moves_sound.Tie as tie
 
 abbrev Inv-loop : tie.InvT-loop
-Inv-loop table ok₀ row₀ ok row = (row ≤ 256) × ((ok && rest table row) ≡ movesSound table)
+Inv-loop table ok₀ t₀ ok t = (t ≤ 16) × (ok ≡ allBelow t (movesFit table))
 
 abbrev μ-loop : tie.MeasureT-loop
-μ-loop table ok₀ row₀ ok row = 256 - row
+μ-loop table ok₀ t₀ ok t = 16 - t
 
 loop-holds : tie.Need-loop-holds Inv-loop μ-loop
-unfolding movesSound
-loop-holds c = (search needs, search needs)
+loop-holds c = (search needs, sym (below-none _))
 
 element-copy-out-states : tie.Need-element-copy-out-states Inv-loop μ-loop
 element-copy-out-states c = search needs
 
-cast-limit : tie.Need-cast-limit Inv-loop μ-loop
-cast-limit c = search needs
+limits-requires : tie.Need-limits-requires Inv-loop μ-loop
+limits-requires c κs = search needs
 
-limit-requires : tie.Need-limit-requires Inv-loop μ-loop
-limit-requires c κs = search needs
+rows-within-requires : tie.Need-rows-within-requires Inv-loop μ-loop
+rows-within-requires c κs = search needs
 
-row-within-requires : tie.Need-row-within-requires Inv-loop μ-loop
-row-within-requires c κs = search needs
-
-add-row : tie.Need-add-row Inv-loop μ-loop
-add-row c = search needs
+add-t : tie.Need-add-t Inv-loop μ-loop
+add-t c = search needs
 
 loop-less : tie.Need-loop-less Inv-loop μ-loop
 loop-less c = search needs
@@ -44,18 +38,14 @@ loop-again c =
     let w = c .before .before .before .before .before .before .loop in
     let T = c .before .before .before .before .before .before .before .args .t1 in (
       search needs,
-      row-turn T (w .row) (c .row-within .result) (w .ok) (movesSound T) (search needs) (search needs)
-          (c .row-within .ensures ∙ rw (c .before .before .before .limit .ensures)) (w .inv .1),
+      below-turn (w .t) (movesFit T) (c .rows-within .result) (w .ok)
+          (rw (c .rows-within .ensures) (rows-fit T (w .t) (c .before .limits .result) (c .before .limits .ensures))) (w .inv .1),
     )
 
 returns : tie.Need-returns Inv-loop μ-loop
 returns c =
-    let w = c .before .loop in
-    let T = c .before .before .args .t1 in
-    let e : w .row ≡ 256 = omega arith in
-    let l : length (T .moves) ≡ 4096 = search needs in
-    let d : rest T (w .row) ≡ true = each-none (moveSound T) (T .moves) (w .row * 16) (omega arith) in
-    and-comm true (w .ok) ∙ ap (λ (b : Bool). w .ok && b) (sym d) ∙ w .inv .1
+    let e : c .before .loop .t ≡ 16 = omega arith in
+    c .before .loop .inv .1 ∙ rw e (sym (moves-by-task _ (search needs)))
 
 pub moves-sound-spec : {M : Type 1} → statement M
 moves-sound-spec =
@@ -65,10 +55,9 @@ moves-sound-spec =
     μ-loop
     loop-holds
     element-copy-out-states
-    cast-limit
-    limit-requires
-    row-within-requires
-    add-row
+    limits-requires
+    rows-within-requires
+    add-t
     loop-less
     loop-again
     returns)

@@ -1,9 +1,7 @@
 -- `row_within` meets its contract: the flag is the test of the cells so far.
-use Prim.Native.Nat.{_+_, _*_, _-_, _≤_}
-use mathlib.Core.Path.{_≡_, sym, _∙_, ap}
+use Prim.Native.Nat.{_-_, _≤_}
+use mathlib.Core.Path.{_≡_, refl, sym, _∙_}
 use native.Mathlib.Omega.{arith}
-use lib.Dec.{leb}
-use lib.ListN.{getD}
 use borrow.Author.Needs.{needs}
 use Rattle.laws.proofs.Numbers.{below-none, below-turn}
 use Rattle.laws.specs.Below.{allBelow}
@@ -12,10 +10,10 @@ use Rattle.soundness.proofs.row_within.Statement.{statement}
 use Rattle.soundness.proofs.row_within.Tie as tie
 
 abbrev Inv-loop : tie.InvT-loop
-Inv-loop moves row most gates ok₀ g₀ ok g = (g ≤ 16) × (ok ≡ allBelow g (cellFits moves row most gates))
+Inv-loop moves row limits ok₀ g₀ ok g = (g ≤ 16) × (ok ≡ allBelow g (cellFits moves row limits))
 
 abbrev μ-loop : tie.MeasureT-loop
-μ-loop moves row most gates ok₀ g₀ ok g = 16 - g
+μ-loop moves row limits ok₀ g₀ ok g = 16 - g
 
 loop-holds : tie.Need-loop-holds Inv-loop μ-loop
 loop-holds c = (search needs, sym (below-none _))
@@ -29,8 +27,8 @@ add-cell c = search needs
 element-copy-out-cell : tie.Need-element-copy-out-cell Inv-loop μ-loop
 element-copy-out-cell c = search needs
 
-limit-requires : tie.Need-limit-requires Inv-loop μ-loop
-limit-requires c κs = search needs
+array-read-ok : tie.Need-array-read-ok Inv-loop μ-loop
+array-read-ok c = search needs
 
 add-g : tie.Need-add-g Inv-loop μ-loop
 add-g c = search needs
@@ -40,12 +38,9 @@ loop-less c = search needs
 
 loop-again : tie.Need-loop-again Inv-loop μ-loop
 loop-again c =
-    let w = c .before .before .before .loop in
-    let a = c .before .before .before .before .args in (
-      search needs,
-      below-turn (w .g) (cellFits (a .moves .now) (a .row) (a .most) (a .gates)) _ _
-          (ap (leb (getD (a .moves .now) (a .row * 16 + w .g) 0)) (c .limit .ensures)) (w .inv .1),
-    )
+    let w = c .before .before .loop in
+    let a = c .before .before .before .args in
+    (search needs, below-turn (w .g) (cellFits (a .moves .now) (a .row) (a .t3)) _ _ refl (w .inv .1))
 
 returns : tie.Need-returns Inv-loop μ-loop
 returns c = let e : c .before .loop .g ≡ 16 = omega arith in c .before .loop .inv .1 ∙ rw e
@@ -60,7 +55,7 @@ row-within-spec =
     mul-cell
     add-cell
     element-copy-out-cell
-    limit-requires
+    array-read-ok
     add-g
     loop-less
     loop-again
