@@ -76,7 +76,7 @@ pub data Ends (T : Table) (s : State) (log : List ℕ) : Outcome → Type 0 wher
       → HasRoom s log (downWork T s g b) → Ends T s log (doneAtTask s (downPopped s g b) log b (downWork T s g b))
 
 -- who stands at an endpoint is present
-present : (T : Table) (e : ℕ) → EndWithin (T .tasks) (T .gates) (endpointOf (T .tasks) (T .gates) e)
+pub present : (T : Table) (e : ℕ) → EndWithin (T .tasks) (T .gates) (endpointOf (T .tasks) (T .gates) e)
 present T e = turn (ltb e 16) (ltb e (T .tasks)) (ltb e 32) (ltb (e - 16) (T .gates)) refl refl
   where
     turn : (a b c d : Bool) → ltb e (T .tasks) ≡ b → ltb (e - 16) (T .gates) ≡ d

@@ -1,6 +1,6 @@
 -- Laws of `allBelow` and of `allFrom`: a turn more, the end, and what an outcome says.
 use Prim.Native.Nat.{ℕ, suc, zero, _+_, _*_, _<_}
-use mathlib.Core.Bool.{Bool, true, false, _&&_, and-true, and-comm}
+use mathlib.Core.Bool.{Bool, true, false, _&&_, and-true, and-comm, true≢false}
 use mathlib.Core.List.{List, [], _∷_}
 use mathlib.Core.Logic.{⊎-elim}
 use mathlib.Core.Path.{_≡_, refl, sym, ap, _∙_}
@@ -10,7 +10,7 @@ use native.Mathlib.Omega.{arith}
 use lib.ListN.{length, getD}
 use Rattle.laws.specs.Below.{allBelow}
 use Rattle.laws.specs.Each.{allFrom}
-use Rattle.laws.proofs.Tests.{and-left, and-right, and-false-right, and-assoc}
+use Rattle.laws.proofs.Tests.{and-left, and-right, and-false-right, and-assoc, and-false}
 
 pub below-none : (P : ℕ → Bool) → allBelow 0 P ≡ true
 unfolding allBelow
@@ -49,6 +49,15 @@ below-fails (suc n) P k l h = ⊎-elim
     (λ (e : k ≡ n). rw (sym (ap P e) ∙ h))
     (λ (m : k < n). and-false-right (P n) (allBelow n P) (below-fails n P k m h))
     (eq-or-lt-of-le (le-of-suc-le-suc l))
+
+-- where not all below n pass there is one that fails
+pub below-false : (n : ℕ) (P : ℕ → Bool) → allBelow n P ≡ false → (k : ℕ) × ((k < n) × (P k ≡ false))
+unfolding allBelow
+below-false zero P h = absurd (true≢false h)
+below-false (suc n) P h = ⊎-elim
+    (λ (e : P n ≡ false). (n, (omega arith, e)))
+    (λ (e : allBelow n P ≡ false). let r = below-false n P e in (r .0, (omega (arith, r .1 .0), r .1 .1)))
+    (and-false (P n) (allBelow n P) h)
 
 -- tests that agree below n
 pub below-same : (n : ℕ) (P Q : ℕ → Bool) → ((k : ℕ) → k < n → P k ≡ Q k) → allBelow n P ≡ allBelow n Q

@@ -18,6 +18,10 @@ and-right false b h = absurd (true≢false (sym h))
 pub and-true : (a b : Bool) → a ≡ true → b ≡ true → (a && b) ≡ true
 and-true a b p q = rw (p, q)
 
+pub and-false : (a b : Bool) → (a && b) ≡ false → (a ≡ false) ⊎ (b ≡ false)
+and-false true b h = inr h
+and-false false b h = inl refl
+
 pub and-false-right : (a b : Bool) → b ≡ false → (a && b) ≡ false
 and-false-right true b h = h
 and-false-right false b h = refl

@@ -1,0 +1,2 @@
+// Nothing runs here. proofs/Law.antt has the third demand: what line/specs/Law.antt says holds of every state that a line
+// reaches, for every table file that is accepted, every log and all deliveries.

@@ -1,0 +1,4 @@
+pub mod Contents
+pub mod Runs
+pub mod Tokens
+pub mod Law

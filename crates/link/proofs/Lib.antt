@@ -1,0 +1,16 @@
+pub mod View
+pub mod Frame
+pub mod Channels
+pub mod Tables
+pub mod Loops
+pub mod Works
+pub mod Handled
+pub mod Lists
+pub mod Entries
+pub mod AtTask
+pub mod AtGate
+pub mod Made
+pub mod ToGate
+pub mod ToTask
+pub mod Fresh
+pub mod Deliveries
