@@ -19,8 +19,8 @@ use Rattle.link.proofs.Deliveries.{safe-rules, safe-fits}
 use Rattle.law.proofs.Legal.{log-legal}
 use Rattle.law.proofs.Live.{live-here}
 use Rattle.law.proofs.Reached.{Reached, next-allowed, fresh-reached, run-reached, run-allowed}
-use Rattle.law.proofs.Replayed.{exact-state, behind-state}
-use Rattle.law.proofs.Still.{all-free, none-ready}
+use Rattle.law.proofs.Replayed.{exact-state, behind-state, one-commit}
+use Rattle.law.proofs.Still.{all-free, none-waits, none-ready}
 
 law-of : (T : Table) → Lawful T → (before : List ℕ) (o : Outcome) → Reached T before o → Law T before (o .state) (o .log)
 law-of T q before o r =
@@ -37,9 +37,11 @@ law-of T q before o r =
       behind = r .behind;
       allowed = next-allowed T q s log f;
       noneHeld = λ h. all-free T q s R log h i;
+      noneWaits = λ h. none-waits T q s R log h i;
       noneReady = λ h. none-ready T q s R log h i;
       exact = λ t n. ap (λ (at : ℕ → ℕ). at t) (l .replay-is) ∙ exact-state T q s log R i t n;
       oneBehind = λ t a g c. behind-state T q s log R i t a g c ∙ ap (λ (at : ℕ → ℕ). To (at t)) (sym (l .replay-is));
+      oneCommit = λ t a b g h. one-commit T q s log R i t a b g h;
       oneToken = one-under-way (planOf T) (q .right) 16 16 (q .rules .tasks) (q .rules .gates) (lineOf s log) i;
       live = live-here T q s log f;
     }

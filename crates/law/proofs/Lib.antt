@@ -5,3 +5,4 @@ pub mod Still
 pub mod Live
 pub mod Reached
 pub mod Law
+pub mod Instance

@@ -1,21 +1,23 @@
--- Where no message is undelivered, no task is Held and no vector has all its tasks ready.
-use Prim.Native.Nat.{ℕ, _<_}
+-- Where no message is undelivered, no task is Held, no request waits and no vector has all its tasks ready.
+use Prim.Native.Nat.{ℕ, _<_, _≤_}
 use mathlib.Core.Bool.{Bool, _||_, false, not, true}
 use mathlib.Core.List.{List}
-use mathlib.Core.Logic.{_≢_, _⊎_, ⊎-elim}
-use mathlib.Core.Path.{_≡_, refl, sym}
+use mathlib.Core.Logic.{_≢_, ⊎-elim}
+use mathlib.Core.Path.{_≡_, refl, sym, ap}
 use native.Mathlib.Omega.{arith}
 use lib.Dec.{ltb}
-use lib.ListN.{getD}
+use lib.ListN.{List·getD-eq-default, getD}
 use borrow.Author.Tests.{eqb-true, ltb-true}
 use Rattle.laws.specs.Below.{allBelow}
 use Rattle.laws.proofs.Numbers.{below-at}
-use Rattle.laws.proofs.Tests.{and-left, and-right, eq-or-ne}
+use Rattle.laws.proofs.Tests.{and-left, and-right, eq-or-ne, le-or-lt}
 use Rattle.table.specs.Tables.{readyOf}
 use Rattle.table.specs.declared.Table.{Table}
-use Rattle.state.specs.States.{acrossOf, downOf, gateOf, taskOf, upOf}
+use Rattle.state.specs.States.{acrossOf, downOf, gateOf, noTask, taskOf, upOf}
 use Rattle.state.specs.declared.Mode.the-variants.{Free}
 use Rattle.state.specs.declared.State.{State}
+use Rattle.state.specs.declared.Task.{Task}
+use Rattle.tasks.specs.Tasks.{isFree}
 use Rattle.quiet.specs.Quiet.{gatesQuiet, oneQuiet, onesQuiet, quiet, tasksQuiet, threeQuiet, threesQuiet}
 use Rattle.kept.proofs.States.{StateRules}
 use Rattle.machine.specs.Machine.{enabled, takesPart}
@@ -34,11 +36,15 @@ zero-by n h = ⊎-elim (λ (e : n ≡ 0). e) (λ (e : n ≢ 0). h e) (eq-or-ne n
 module _ (T : Table) (q : Lawful T) (s : State) (R : StateRules T s) (log : List ℕ) (h : quiet s ≡ true) where
   quiet-tasks : (t : ℕ) → t < T .tasks → tasksQuiet s t ≡ true
   unfolding quiet
-  quiet-tasks t l = below-at 16 (tasksQuiet s) (and-left (allBelow 16 (tasksQuiet s)) (allBelow 16 (gatesQuiet s)) h) t (omega (arith, q .rules .tasks))
+  quiet-tasks t l =
+      below-at 16 (tasksQuiet s) (and-left (allBelow 16 (tasksQuiet s)) (allBelow 16 (gatesQuiet s)) h) t
+      (omega (arith, q .rules .tasks))
 
   quiet-gates : (g : ℕ) → g < T .gates → gatesQuiet s g ≡ true
   unfolding quiet
-  quiet-gates g l = below-at 16 (gatesQuiet s) (and-right (allBelow 16 (tasksQuiet s)) (allBelow 16 (gatesQuiet s)) h) g (omega (arith, q .rules .gates))
+  quiet-gates g l =
+      below-at 16 (gatesQuiet s) (and-right (allBelow 16 (tasksQuiet s)) (allBelow 16 (gatesQuiet s)) h) g
+      (omega (arith, q .rules .gates))
 
   no-up : (t g : ℕ) → upOf (taskOf s t) g .count ≡ 0
   no-up t g = zero-by (upOf (taskOf s t) g .count) (λ n.
@@ -68,6 +74,12 @@ module _ (T : Table) (q : Lawful T) (s : State) (R : StateRules T s) (log : List
     pub all-free : (t : ℕ) → taskOf s t .mode ≡ Free
     all-free t = none-held (planOf T) (q .right) (lineOf s log) i nothing-travels t
 
+    pub none-waits : (t : ℕ) → taskOf s t .count ≡ 0
+    none-waits t = ⊎-elim
+        (λ (l : 16 ≤ t). ap (λ (p : Task). p .count) (List·getD-eq-default (s .tasks) noTask {n = t} (omega (arith, R .tasks))))
+        (λ (l : t < 16). R .task t l .free (ap isFree (all-free t)))
+        (le-or-lt 16 t)
+
     pub none-ready : (g v : ℕ) → enabled T (λ t. taskOf s t .state) g v ≡ false
     unfolding enabled
     none-ready g v = turn (enabled T (λ t. taskOf s t .state) g v) refl
@@ -84,4 +96,5 @@ module _ (T : Table) (q : Lawful T) (s : State) (R : StateRules T s) (log : List
             let all : Bool = allBelow 16 (λ (t : ℕ). not (takesPart T g v t) || readyOf (T .moves) t (taskOf s t .state) g) in
             let m = q .member g v (ltb-true v (getD (T .vectors) g 0) (and-left there all e)) in
             absurd (none-enabled (planOf T) (q .right) (lineOf s log) i nothing-travels g v (m .0) (m .1) (λ t n.
-            met t (takesPart T g v t) n (below-at 16 _ (and-right there all e) t (let p = q .present g v t n .task in omega (arith, q .rules .tasks)))))
+            met t (takesPart T g v t) n (below-at 16 _ (and-right there all e) t
+            (let p = q .present g v t n .task in omega (arith, q .rules .tasks)))))

@@ -1,13 +1,12 @@
 -- What the third demand says of every state that a line reaches.
 use Prim.Native.Nat.{ℕ, _*_, _≤_}
-use mathlib.Core.Bool.{Bool, true, false}
+use mathlib.Core.Bool.{true, false}
 use mathlib.Core.List.{List, [], _∷_}
 use mathlib.Core.Logic.{_≢_, _⊎_}
 use mathlib.Core.Path.{_≡_}
 use lib.ListN.{getD, length}
 use Rattle.answers.specs.declared.Answer.{Answer}
 use Rattle.answers.specs.declared.Answer.the-variants.{Done, LogFull, Unsound, Excluded}
-use Rattle.numbers.specs.declared.GateNo.{GateNo}
 use Rattle.table.specs.Tables.{moveOf}
 use Rattle.table.specs.declared.Move.the-variants.{To}
 use Rattle.table.specs.declared.Table.{Table}
@@ -16,7 +15,7 @@ use Rattle.channels.specs.declared.Message.the-variants.{Commit}
 use Rattle.state.specs.States.{taskOf, gateOf, acrossOf}
 use Rattle.state.specs.declared.Mode.the-variants.{Free}
 use Rattle.state.specs.declared.State.{State}
-use Rattle.delivery.specs.Delivery.{Outcome, delivered}
+use Rattle.delivery.specs.Delivery.{delivered}
 use Rattle.quiet.specs.Quiet.{quiet}
 use Rattle.machine.specs.Machine.{starts, enabled, legal, replay}
 use Rattle.protocol.specs.Counts.{dealing}
@@ -56,13 +55,16 @@ module _ (T : Table) (before : List ℕ) (s : State) (log : List ℕ) where
     pub behind : (i : ℕ) → s .logged * 2 ≤ i → getD log i 0 ≡ getD before i 0
     -- "the stated queue sizes are never too small", nor is anything else met that 11 or 12 names
     pub allowed : (from to : ℕ) → Allowed (delivered T s log from to .answer)
-    -- "when no message is undelivered, no task is held and no vector has all its tasks ready"
+    -- "when no message is undelivered, no task is held and no vector has all its tasks ready"; nor does a request wait
     pub noneHeld : quiet s ≡ true → (t : ℕ) → taskOf s t .mode ≡ Free
+    pub noneWaits : quiet s ≡ true → (t : ℕ) → taskOf s t .count ≡ 0
     pub noneReady : quiet s ≡ true → (g v : ℕ) → enabled T (λ t. taskOf s t .state) g v ≡ false
     -- "each task's stored state is its state in that replay, unless a COMMIT travels to it; then it is one move behind"
     pub exact : (t : ℕ) → ((a g : ℕ) → travels s a t (Commit (record { 0 = g })) → ⊥) → replayed t ≡ taskOf s t .state
     pub oneBehind : (t a g : ℕ) → travels s a t (Commit (record { 0 = g }))
         → moveOf (T .moves) t (taskOf s t .state) g ≡ To (replayed t)
+    pub oneCommit : (t a b g h : ℕ) → travels s a t (Commit (record { 0 = g })) → travels s b t (Commit (record { 0 = h }))
+        → (a ≡ b) × (g ≡ h)
     -- "LOCKs of gate g, travelling or waiting, plus results on the way to g, number 1 while g is Dealing and 0 while it
     -- is Idle"
     pub oneToken : (g : ℕ) → tokens s g ≡ dealing (gateOf s g .deal)

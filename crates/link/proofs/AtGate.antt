@@ -78,7 +78,8 @@ module _ (S : ℕ → Task) (G : ℕ → Gate) (log : List Request) (t g : ℕ) 
   })
 
   pub result-line : (T : Table) (v : ℕ) (k : Bool)
-      → lineWith (changed S t (upTaken (S t) g)) (changed G g (offering (G g) (offersAfter k t (G g .offers) (maskOf (T .masks) g v)) Idle)) log
+      → lineWith (changed S t (upTaken (S t) g))
+      (changed G g (offering (G g) (offersAfter k t (G g .offers) (maskOf (T .masks) g v)) Idle)) log
       ≡ resultTaken (planOf T) (lineWith S G log) t g v k rest
   result-line T v k = agree-path (record {
     at = part-kept (λ p. p .state) S t (upTaken (S t) g) refl;
@@ -95,7 +96,8 @@ module _ (S : ℕ → Task) (G : ℕ → Gate) (log : List Request) (t g : ℕ) 
       mask : ℕ
       mask = maskOf (T .masks) g v
 
-      after : (k : Bool) (y : ℕ) → memberOf (offersAfter k t (G g .offers) (maskOf (T .masks) g v)) y ≡ step.offersAfter (planOf T) g v k (memberOf (G g .offers)) t y
+      after : (k : Bool) (y : ℕ) → memberOf (offersAfter k t (G g .offers) (maskOf (T .masks) g v)) y
+          ≡ step.offersAfter (planOf T) g v k (memberOf (G g .offers)) t y
       after true y = member-without (G g .offers) t y ht ∙ not-cond (eqb y t) (memberOf (G g .offers) y)
       after false y =
           member-without (unionOf (G g .offers) mask) t y ht ∙ not-cond (eqb y t) (memberOf (unionOf (G g .offers) mask) y)
@@ -117,6 +119,13 @@ module _ (T : Table) (q : Lawful T) (S : ℕ → Task) (G : ℕ → Gate) (log :
   abbrev X : Line
   X = lineWith S G log
 
+  -- the gate that deals v, and the LOCK that it sends
+  abbrev dealtGate : ℕ → Gate
+  dealtGate v = offering (G g) (minusOf offers (maskOf (T .masks) g v)) (Dealing v)
+
+  abbrev lockOf : ℕ → Message
+  lockOf v = Lock (request (T .masks) vectors g v)
+
   same-fitting : fitting (T .masks) vectors g offers ≡ firstFrom 0 vectors (λ v. coveredBy (maskOf (T .masks) g v) (memberOf offers))
   same-fitting = ap (firstFrom 0 vectors) (fun-ext (λ v. subset-covered (maskOf (T .masks) g v) offers (q .small g v)))
 
@@ -124,8 +133,7 @@ module _ (T : Table) (q : Lawful T) (S : ℕ → Task) (G : ℕ → Gate) (log :
   stays = record { good = refl; is = ap (λ (f : ℕ → Gate). lineWith S f log) (changed-back G g) }
 
   dealt-line : (v b : ℕ) → b < 16 → G g .deal ≡ Idle
-      → Searched S G log g (toTask (offering (G g) (minusOf offers (maskOf (T .masks) g v)) (Dealing v)) (found.Task (record { 0 = b })) (Lock (request (T .masks) vectors g v)))
-      (step.dealt (planOf T) X g v b)
+      → Searched S G log g (toTask (dealtGate v) (found.Task (record { 0 = b })) (lockOf v)) (step.dealt (planOf T) X g v b)
   dealt-line v b hb e =
       let c : Channel1 = downOf (G g) b in
       let long : b < length (G g .down) = omega (arith, z .down) in
@@ -138,8 +146,8 @@ module _ (T : Table) (q : Lawful T) (S : ℕ → Task) (G : ℕ → Gate) (log :
           offers = λ x y. elim (eq-case x g) [ diff p f ↦ rw f | same p f ↦ rw (f, p) (member-minus offers (maskOf (T .masks) g v) y) ];
           deal = part-changed (λ k. k .deal) G g _ (Dealing v) refl;
           up = λ x y. refl;
-          down = row-changed-from downList G g b _ _ (λ y. set-row messages1 (G g .down) b (put1 c (Lock (request (T .masks) vectors g v))) empty1 long y
-              ∙ ap (λ m. changed (λ y. downList (G g) y) b m y) (put-messages1 c (Lock (request (T .masks) vectors g v)) (silent e b)));
+          down = row-changed-from downList G g b _ _ (λ y. set-row messages1 (G g .down) b (put1 c (lockOf v)) empty1 long y
+              ∙ ap (λ m. changed (λ y. downList (G g) y) b m y) (put-messages1 c (lockOf v) (silent e b)));
           across = λ x y. refl;
           log = refl;
         });
@@ -150,9 +158,9 @@ module _ (T : Table) (q : Lawful T) (S : ℕ → Task) (G : ℕ → Gate) (log :
   dealt-shows v e i = turn (lowestOf (maskOf (T .masks) g v)) refl
     where
       turn : (f : Found) → lowestOf (maskOf (T .masks) g v) ≡ f
-          → Searched S G log g (toTask (offering (G g) (minusOf offers (maskOf (T .masks) g v)) (Dealing v)) f (Lock (request (T .masks) vectors g v)))
-          (step.dealt (planOf T) X g v (numberOf f))
-      turn found.Nobody h = clash (sym (subst (λ (f : Found). memberOf (maskOf (T .masks) g v) (numberOf f) ≡ true) h (q .right .lowest-in g v (memberOf offers) e))
+          → Searched S G log g (toTask (dealtGate v) f (lockOf v)) (step.dealt (planOf T) X g v (numberOf f))
+      turn found.Nobody h = clash (
+          sym (subst (λ (f : Found). memberOf (maskOf (T .masks) g v) (numberOf f) ≡ true) h (q .right .lowest-in g v (memberOf offers) e))
           ∙ lowest-nobody (maskOf (T .masks) g v) h 0 (omega arith))
       turn (found.Task u) h = dealt-line v (u .0) (lowest-says (maskOf (T .masks) g v) u h .high) i
 
@@ -189,5 +197,6 @@ searched-at T q S G log g k z silent =
     subst (λ (x : Gate). Searched S G log g (searched (T .masks) (getD (T .vectors) g 0) g x) X) e
     record {
       good = r .good;
-      is = ap (λ (f : ℕ → Gate). lineWith S f log) (sym (changed-twice G g k (searched (T .masks) (getD (T .vectors) g 0) g (changed G g k g) .gate))) ∙ r .is;
+      is = ap (λ (f : ℕ → Gate). lineWith S f log)
+          (sym (changed-twice G g k (searched (T .masks) (getD (T .vectors) g 0) g (changed G g k g) .gate))) ∙ r .is;
     }

@@ -3,9 +3,10 @@ use Prim.Native.Nat.{ℕ, _*_, _+_, _<_, _≤_, suc, zero}
 use mathlib.Core.List.{List, _∷_}
 use mathlib.Core.Path.{_≡_, _∙_, ap, refl}
 use native.Mathlib.Nat.{add-suc, add-zero}
+use native.Mathlib.Numerals.{add-one}
 use native.Mathlib.Omega.{arith}
 use lib.ListN.{getD, length, length-set, set}
-use lib.Seq.{getD-set-same}
+use lib.Seq.{getD-set-other, getD-set-same}
 use Rattle.laws.specs.Turns.{upTo}
 use Rattle.laws.proofs.Stores.{set-other}
 use Rattle.laws.proofs.Turning.{turns-keep}
@@ -13,7 +14,24 @@ use Rattle.channels.specs.Channels.{noRequest}
 use Rattle.channels.specs.declared.Request.{Request}
 use Rattle.delivery.specs.Delivery.{entered, written, writtenAt}
 use Rattle.link.proofs.View.{newestFirst}
-use Rattle.link.proofs.Works.{entriesWith}
+
+-- the first n entries of a delivery, the newest first, before those of the log
+abbrev pub entriesWith : ℕ → List Request → List Request → List Request
+entriesWith zero entries log = log
+entriesWith (suc n) entries log = getD entries n noRequest ∷ entriesWith n entries log
+
+entries-keep : (m n : ℕ) (entries : List Request) (r : Request) (log : List Request) → m ≤ n
+    → entriesWith m (set entries n r) log ≡ entriesWith m entries log
+entries-keep zero n entries r log h = refl
+entries-keep (suc m) n entries r log h =
+    rw (entries-keep m n entries r log (omega arith))
+    (ap (λ q. q ∷ entriesWith m entries log) (getD-set-other entries n m r noRequest (λ p. absurd (omega arith))))
+
+pub entries-more : (n : ℕ) (entries : List Request) (r : Request) (log : List Request) → n < length entries
+    → entriesWith (n + 1) (set entries n r) log ≡ r ∷ entriesWith n entries log
+entries-more n entries r log h =
+    rw add-one (rw (entries-keep n n entries r log (omega arith))
+    (ap (λ q. q ∷ entriesWith n entries log) (getD-set-same entries n r noRequest h)))
 
 -- an entry written as number k leaves those before it
 before : (m k : ℕ) (log : List ℕ) (r : Request) → m ≤ k → newestFirst m (entered k r log) ≡ newestFirst m log

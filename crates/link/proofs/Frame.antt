@@ -48,9 +48,22 @@ pub part-kept : {A B : Type 0} (f : A → B) (S : ℕ → A) (t : ℕ) (p : A) �
     → (x : ℕ) → f (changed S t p x) ≡ f (S x)
 part-kept f S t p h x = elim (eq-case x t) [ same q e ↦ rw (e, q) h | diff q e ↦ rw e ]
 
-pub part-swapped : {A B : Type 0} (f : A → B) (S : ℕ → A) (t : ℕ) (p q : A) → f q ≡ f p
+-- the party at t exchanged, p for q: a part that is the same, a part that is b now, a row with b at one place
+pub swap-kept : {A B : Type 0} (f : A → B) (S : ℕ → A) (t : ℕ) (p q : A) → f q ≡ f p
     → (x : ℕ) → f (changed S t q x) ≡ f (changed S t p x)
-part-swapped f S t p q h x = elim (eq-case x t) [ same r e ↦ rw e h | diff r e ↦ rw e ]
+swap-kept f S t p q h x = elim (eq-case x t) [ same r e ↦ rw e h | diff r e ↦ rw e ]
+
+pub swap-part : {A B : Type 0} (f : A → B) (S : ℕ → A) (t : ℕ) (p q : A) (b : B) → f q ≡ b
+    → (x : ℕ) → f (changed S t q x) ≡ changed (λ y. f (changed S t p y)) t b x
+swap-part f S t p q b h x = elim (eq-case x t) [ same r e ↦ rw e h | diff r e ↦ rw e ]
+
+pub swap-row : {A B : Type 0} (f : A → ℕ → B) (S : ℕ → A) (t g : ℕ) (p q : A) (b : B)
+    → ((y : ℕ) → f q y ≡ changed (f p) g b y)
+    → (x y : ℕ) → f (changed S t q x) y ≡ changedTo (λ x y. f (changed S t p x) y) t g b x y
+swap-row f S t g p q b h x y = elim (eq-case x t) [
+  | diff r e ↦ rw (e, and-no)
+  | same r e ↦ rw (e, and-yes) (h y)
+]
 
 -- a row of parts of the party at t: the same as before, or with b at one place
 pub row-kept : {A B : Type 0} (f : A → ℕ → B) (S : ℕ → A) (t : ℕ) (p : A) → ((y : ℕ) → f p y ≡ f (S t) y)

@@ -75,7 +75,8 @@ module _ (T : Table) (q : Lawful T) where
       turn : Begun n (upTo (startedAt T) n emptyState) → Begun (suc n) (startedAt T n (upTo (startedAt T) n emptyState))
       turn r =
           let s : State = upTo (startedAt T) n emptyState in
-          let e : taskOf s n ≡ emptyTask = r .tasks n ∙ rw (le-ltb n n (omega arith)) (getD-replicate 16 n emptyTask noTask (omega arith)) in
+          let e : taskOf s n ≡ emptyTask =
+          r .tasks n ∙ rw (le-ltb n n (omega arith)) (getD-replicate 16 n emptyTask noTask (omega arith)) in
           record {
             tasks = λ x. set-changed (s .tasks) n _ noTask (let y = r .long in omega arith) x
                 ∙ ap (λ (p : Task). cond (eqb x n) (started (T .moves) (T .gates) n (startOf n) p) (taskOf s x)) e
@@ -127,10 +128,13 @@ module _ (T : Table) (q : Lawful T) where
     waiting = part requestsOf (λ x. []) refl (λ x. ap requestsOf (fresh-is x)) (λ x h. refl);
     offers = λ g t. part-gate (λ k. memberOf (k .offers) t) refl g ∙ member-none t;
     deal = part-gate (λ k. k .deal) refl;
-    up = λ t g. part (λ p. upList p g) (λ x. readyIf (readyOf (T .moves) x (startOf x) g)) (rw (same-everywhere 16 g empty3)) (λ x. fresh-up x g)
+    up = λ t g. part (λ p. upList p g) (λ x. readyIf (readyOf (T .moves) x (startOf x) g)) (rw (same-everywhere 16 g empty3))
+        (λ x. fresh-up x g)
         (λ x h. rw (same-everywhere 16 g empty3) (absent x g h (readyOf (T .moves) x (startOf x) g) refl)) t;
     down = λ g t. part-gate (λ k. downList k t) (rw (same-everywhere 16 t empty1)) g ∙ rw (same-everywhere 16 t empty1);
-    across = λ a b. part (λ p. acrossList p b) (λ x. []) (rw (same-everywhere 16 b empty1)) (λ x. ap (λ (p : Task). acrossList p b) (fresh-is x) ∙ rw (same-everywhere 16 b empty1)) (λ x h. rw (same-everywhere 16 b empty1)) a;
+    across = λ a b. part (λ p. acrossList p b) (λ x. []) (rw (same-everywhere 16 b empty1))
+        (λ x. ap (λ (p : Task). acrossList p b) (fresh-is x) ∙ rw (same-everywhere 16 b empty1))
+        (λ x h. rw (same-everywhere 16 b empty1)) a;
     log = ap (λ n. newestFirst n log) (all-begun .logged);
   })
     where

@@ -3,10 +3,11 @@ pub mod Frame
 pub mod Channels
 pub mod Tables
 pub mod Loops
+pub mod Entries
+pub mod Shows
 pub mod Works
 pub mod Handled
 pub mod Lists
-pub mod Entries
 pub mod AtTask
 pub mod AtGate
 pub mod Made

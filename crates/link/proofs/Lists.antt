@@ -15,13 +15,11 @@ use Rattle.state.specs.declared.Task.{Task}
 use Rattle.tasks.specs.Tasks.{handled, isFree, listHandled, with}
 use Rattle.tasks.specs.declared.Work.{Work}
 use Rattle.tasks.proofs.Fired.{handled-fired}
-use Rattle.kept.proofs.Rules.{SizedTask}
 use Rattle.protocol.specs.Lines.{Line}
-use Rattle.protocol.specs.Plans.{changed}
 use Rattle.protocol.specs.Steps.{withList}
 use Rattle.protocol.proofs.Agree.{agree-path}
-use Rattle.protocol.proofs.Cases.{clash, diff, eq-case, eqb-same, same}
-use Rattle.protocol.proofs.Invariant.{Busy, Ghost, Links}
+use Rattle.protocol.proofs.Cases.{clash, eqb-same}
+use Rattle.protocol.proofs.Invariant.{Busy, Ghost}
 use Rattle.protocol.proofs.ListHandled.{front-handled}
 use Rattle.protocol.proofs.Listed.{unwait-links}
 use Rattle.protocol.proofs.Phases.{idle}
@@ -29,16 +27,15 @@ use Rattle.protocol.proofs.Reading.{free-of, queued-of}
 use Rattle.protocol.proofs.TokenMoves.{tokenTo}
 use Rattle.protocol.proofs.Tokens.{inHand, queued, vectorsOf}
 use Rattle.line.specs.Contents.{requestsOf}
-use Rattle.link.proofs.Frame.{changed-at, part-swapped}
+use Rattle.link.proofs.Frame.{swap-kept, swap-part}
 use Rattle.link.proofs.Handled.{handled-shows}
-use Rattle.link.proofs.Loops.{allowed}
+use Rattle.link.proofs.Shows.{Fit, Shows, own-mode, own-waiting, shows-all}
 use Rattle.link.proofs.Tables.{Lawful, planOf}
-use Rattle.link.proofs.View.{acrossList, lineWith, upList}
-use Rattle.link.proofs.Works.{Shows, entriesWith, shows-back}
+use Rattle.link.proofs.View.{acrossList, upList}
 use Rattle.protocol.specs.Deliveries as protocol
 
-pub wait-length : (p : Task) → SizedTask p → p .count ≤ 16 → length (requestsOf p) ≡ p .count
-wait-length p z h = length-take-le (p .count) (p .waiting) (omega (arith, z .waiting))
+pub wait-length : (p : Task) → Fit p → length (requestsOf p) ≡ p .count
+wait-length p z = length-take-le (p .count) (p .waiting) (omega (arith, z .few, z .sized .waiting))
 
 -- the front of a waiting list, and the list behind it
 front : (n : ℕ) (waiting : List Request) (r : Request) (l : List Request) → n ≤ length waiting
@@ -50,35 +47,40 @@ front (suc n) (a ∷ waiting) r l h e =
     let p : suc n - 1 ≡ n = omega arith in
     (cc, rw (p, take-append-le n waiting (noRequest ∷ []) (omega arith)) (cc))
 
-pub sized-behind : (p : Task) → SizedTask p → SizedTask (withoutFront p)
-sized-behind p z = record { waiting = simp (length-append, length-drop, z .waiting); up = z .up; across = z .across }
+fit-behind : (p : Task) → Fit p → Fit (withoutFront p)
+fit-behind p z = record {
+  sized = record { waiting = simp (length-append, length-drop, z .sized .waiting); up = z .sized .up; across = z .sized .across };
+  few = (let y : p .count - 1 ≤ 16 = omega (arith, z .few) in y);
+}
+
+-- b's list without its front
+front-shows : (G : ℕ → Gate) (log : List Request) (b : ℕ) (S : ℕ → Task) (l : List Request) (w : Work) (x : Line) → Shows G log b S w x
+    → requestsOf (withoutFront (w .task)) ≡ l → Shows G log b S (with w (withoutFront (w .task)) (w .ok)) (withList x b l)
+front-shows G log b S l = shows-all G log b S
+    (λ w x. requestsOf (withoutFront (w .task)) ≡ l → Shows G log b S (with w (withoutFront (w .task)) (w .ok)) (withList x b l))
+    (λ p n E z long e. record {
+      good = refl;
+      fit = fit-behind p z;
+      long = long;
+      is = agree-path (record {
+        at = swap-kept (λ p. p .state) S b p (withoutFront p) refl;
+        mode = swap-kept (λ p. p .mode) S b p (withoutFront p) refl;
+        waiting = swap-part requestsOf S b p (withoutFront p) l e;
+        offers = λ g t. refl;
+        deal = λ g. refl;
+        up = λ y g. swap-kept (λ p. upList p g) S b p (withoutFront p) refl y;
+        down = λ g t. refl;
+        across = λ y c. swap-kept (λ p. acrossList p c) S b p (withoutFront p) refl y;
+        log = refl;
+      });
+    })
 
 module _ (T : Table) (q : Lawful T) (G : ℕ → Gate) (log : List Request) (b : ℕ) (hb : b < 16) (S : ℕ → Task) where
   abbrev ShowsHere : Work → Line → Type 0
   ShowsHere w x = Shows G log b S w x
 
-  -- what the protocol reads of b's own task
-  own-wait : (w : Work) (x : Line) → ShowsHere w x → requestsOf (w .task) ≡ x .waiting b
-  own-wait w x r = ap requestsOf (sym (changed-at S b (w .task))) ∙ ap (λ (y : Line). y .waiting b) (r .is)
-
   own-free : (w : Work) (x : Line) → ShowsHere w x → isFree (x .mode b) ≡ isFree (w .task .mode)
-  own-free w x r =
-      ap (λ (y : Line). isFree (y .mode b)) (sym (r .is))
-      ∙ ap (λ (p : Task). isFree (p .mode)) (changed-at S b (w .task))
-
-  behind-view : (w : Work) (x : Line) (l : List Request) → ShowsHere w x → requestsOf (withoutFront (w .task)) ≡ l
-      → lineWith (changed S b (withoutFront (w .task))) G (entriesWith (w .fired) (w .entries) log) ≡ withList x b l
-  behind-view w x l r e = agree-path (record {
-    at = part-swapped (λ p. p .state) S b (w .task) (withoutFront (w .task)) refl;
-    mode = part-swapped (λ p. p .mode) S b (w .task) (withoutFront (w .task)) refl;
-    waiting = λ y. elim (eq-case y b) [ same d f ↦ rw f e | diff d f ↦ rw f ];
-    offers = λ g t. refl;
-    deal = λ g. refl;
-    up = λ y g. part-swapped (λ p. upList p g) S b (w .task) (withoutFront (w .task)) refl y;
-    down = λ g t. refl;
-    across = λ y c. part-swapped (λ p. acrossList p c) S b (w .task) (withoutFront (w .task)) refl y;
-    log = refl;
-  }) ∙ ap (λ (y : Line). withList y b l) (r .is)
+  own-free w x r = ap isFree (own-mode G log b S w x r)
 
   -- one request
   next : (r : Request) (l : List Request) (w : Work) (x : Line) (h : Ghost) → ShowsHere w x → Busy (planOf T) x h b
@@ -88,24 +90,11 @@ module _ (T : Table) (q : Lawful T) (G : ℕ → Gate) (log : List Request) (b :
   next r l w x h i y ew eq eb nf =
       let g : ℕ = r .gate .0 in
       let v : ℕ = r .vector in
-      let p : Task = withoutFront (w .task) in
-      let h₁ : Ghost = tokenTo h g (inHand v b) in
-      let et : h .token g ≡ queued v b = queued-of b v (h .token g) (vectorsOf g l) (simp (ew, eqb-same) at (y .links .pair b g .waiting-is)) .0 in
-      let hg : g < 16 = (let k = q .present g v b (rw et at (y .links .gate g .token-right)) .gate in omega (arith, q .rules .gates)) in
-      let e : lineWith (changed S b p) G (entriesWith (w .fired) (w .entries) log) ≡ withList x b l = behind-view w x l i eq in
-      let j : Links (planOf T) (lineWith (changed S b p) G (entriesWith (w .fired) (w .entries) log)) h₁ =
-      subst (λ (s : Line). Links (planOf T) s h₁) (sym e) (unwait-links (planOf T) x h (y .links) g v b l ew) in
-      let here : changed S b p b ≡ p = changed-at S b p in
-      let few : p .count ≤ 16 = (let f = i .few in let y : w .task .count - 1 ≤ 16 = omega arith in y) in
-      let o = handled-shows T q G log b hb (changed S b p) (w .fired) (w .entries) (subst SizedTask (sym here) (sized-behind (w .task) (i .sized)))
-      (subst (λ (a : Task). a .count ≤ 16) (sym here) few) (i .long) nf h₁ j r (rw eqb-same) eb hg in
-      let a = subst (λ (a : Task). Shows G log b (changed S b p) (handled (T .moves) (T .gates) b (T .masks) r (allowed a (w .fired) (w .entries)))
-      (protocol.handled (planOf T) (lineWith (changed S b p) G (entriesWith (w .fired) (w .entries) log)) b r)) here o in
-      let ok : with w p (w .ok) ≡ allowed p (w .fired) (w .entries) =
-      ap (λ (c : Bool). record { task = p; ok = c; fired = w .fired; entries = w .entries }) (i .good) in
-      subst (λ (u : Work). ShowsHere (handled (T .moves) (T .gates) b (T .masks) r u) (protocol.handled (planOf T) (withList x b l) b r)) (sym ok)
-      (subst (λ (s : Line). ShowsHere (handled (T .moves) (T .gates) b (T .masks) r (allowed p (w .fired) (w .entries))) (protocol.handled (planOf T) s b r)) e
-      (shows-back G log b p a))
+      let et : h .token g ≡ queued v b =
+      queued-of b v (h .token g) (vectorsOf g l) (simp (ew, eqb-same) at (y .links .pair b g .waiting-is)) .0 in
+      let hg : g < T .gates = q .present g v b (rw et at (y .links .gate g .token-right)) .gate in
+      handled-shows T q G log b hb S (with w (withoutFront (w .task)) (w .ok)) (withList x b l) (front-shows G log b S l w x i eq) nf
+      (tokenTo h g (inHand v b)) (unwait-links (planOf T) x h (y .links) g v b l ew) r (rw eqb-same) eb (omega (arith, q .rules .gates))
 
   abbrev frontOf : Work → Request
   frontOf w = getD (w .task .waiting) 0 noRequest
@@ -122,7 +111,7 @@ module _ (T : Table) (q : Lawful T) (G : ℕ → Gate) (log : List Request) (b :
       turn (λ w x h a b c d. list-shows l w x h a b c d) (isFree (w .task .mode)) refl (isFree (x .mode b)) refl
     where
       two : ((frontOf w) ≡ rq) × (requestsOf (withoutFront (w .task)) ≡ l)
-      two = front (w .task .count) (w .task .waiting) rq l (let c = i .few in omega (arith, i .sized .waiting)) (own-wait w x i ∙ ew)
+      two = front (w .task .count) (w .task .waiting) rq l (let c = i .fit .few in omega (arith, i .fit .sized .waiting)) (sym (own-waiting G log b S w x i) ∙ ew)
 
       turn : ((w : Work) (x : Line) (h : Ghost) → ShowsHere w x → Busy (planOf T) x h b → x .waiting b ≡ l → w .fired + length l ≤ 16
           → ShowsHere (listHandled (T .moves) (T .gates) b (T .masks) (length l) w) (protocol.listHandled (planOf T) x b l))

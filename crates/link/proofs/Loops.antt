@@ -61,9 +61,12 @@ withAcrosses p l = record { state = p .state; mode = p .mode; count = p .count; 
 abbrev pub withUps : Task → List Channel3 → Task
 withUps p l = record { state = p .state; mode = p .mode; count = p .count; waiting = p .waiting; up = l; across = p .across }
 
--- work that is allowed so far
+-- work on a task with these entries, allowed so far or not
+abbrev pub allowedIf : Bool → Task → ℕ → List Request → Work
+allowedIf ok p fired entries = record { task = p; ok = ok; fired = fired; entries = entries }
+
 abbrev pub allowed : Task → ℕ → List Request → Work
-allowed p fired entries = record { task = p; ok = true; fired = fired; entries = entries }
+allowed p fired entries = allowedIf true p fired entries
 
 -- m to each task below n of the mask
 module _ (mask : ℕ) (m : Message) (p : Task) (fired : ℕ) (entries : List Request) (sixteen : length (p .across) ≡ 16) where
@@ -102,7 +105,8 @@ module _ (mask : ℕ) (m : Message) (p : Task) (fired : ℕ) (entries : List Req
           record {
             channels = set (r .channels) n (put1 c m);
             long = simp length-set (r .long);
-            is = rw (r .is, e) (ap (λ b. record { task = withAcrosses p (set (r .channels) n (put1 c m)); ok = b; fired = fired; entries = entries }) (rw (empty-count1 c none)));
+            is = rw (r .is, e) (ap (λ b. allowedIf b (withAcrosses p (set (r .channels) n (put1 c m))) fired entries)
+                (rw (empty-count1 c none)));
             row = λ y. set-row messages1 (r .channels) n (put1 c m) empty1 (let w = r .long in omega arith) y
                 ∙ ap (λ z. cond (eqb y n) z (messages1 (getD (r .channels) y empty1))) v
                 ∙ ap (λ z. cond (eqb y n) (acrossList p n ++ m ∷ []) z) (r .row y)
@@ -162,8 +166,11 @@ module _ (moves : List ℕ) (gates t x : ℕ) (p : Task) (fired : ℕ) (entries 
           put true d = record {
             channels = set (r .channels) n (put3 (getD (r .channels) n empty3) Ready);
             long = simp length-set (r .long);
-            is = rw (r .is, e, d) (ap (λ b. record { task = withUps p (set (r .channels) n (put3 (getD (r .channels) n empty3) Ready)); ok = b; fired = fired; entries = entries }) (lt-ltb _ 3 small));
-            row = λ y. set-row messages3 (r .channels) n (put3 (getD (r .channels) n empty3) Ready) empty3 (let w = r .long in omega arith) y
+            is = rw (r .is, e, d)
+                (ap (λ b. allowedIf b (withUps p (set (r .channels) n (put3 (getD (r .channels) n empty3) Ready))) fired entries)
+                (lt-ltb _ 3 small));
+            row = λ y. set-row messages3 (r .channels) n (put3 (getD (r .channels) n empty3) Ready) empty3
+                (let w = r .long in omega arith) y
                 ∙ ap (λ z. cond (eqb y n) z (messages3 (getD (r .channels) y empty3))) v
                 ∙ ap (λ z. cond (eqb y n) (new n) z) (r .row y)
                 ∙ below-more ready old new n y e;

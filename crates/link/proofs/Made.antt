@@ -22,9 +22,9 @@ use Rattle.protocol.proofs.Invariant.{Invariant}
 use Rattle.link.proofs.AtGate.{Searched}
 use Rattle.link.proofs.Entries.{written-entries}
 use Rattle.link.proofs.Frame.{gate-changed, task-changed}
+use Rattle.link.proofs.Shows.{Shows}
 use Rattle.link.proofs.Tables.{planOf}
 use Rattle.link.proofs.View.{lineOf, lineWith, newestFirst}
-use Rattle.link.proofs.Works.{Shows}
 use Rattle.tasks.specs.declared.Work as task
 use Rattle.gates.specs.declared.Work as gate
 

@@ -1,7 +1,7 @@
 -- The table as the protocol reads it, and that a sound one keeps what the protocol asks of a table.
 use Prim.Native.Nat.{ℕ, _*_, _+_, _<_, _^_, _≤_}
 use mathlib.Core.Bool.{Bool, _||_, cond, false, not, true}
-use mathlib.Core.Logic.{_⊎_, ⊎-elim}
+use mathlib.Core.Logic.{⊎-elim}
 use mathlib.Core.Option.{Option, none, some}
 use mathlib.Core.Path.{_≡_, _∙_, ap, refl, sym}
 use native.Mathlib.Nat.{le-trans}

@@ -23,6 +23,7 @@ use Rattle.state.specs.declared.Link.the-variants.{ToGate}
 use Rattle.state.specs.declared.State.{State}
 use Rattle.sound_state.specs.SoundState.{room, upFits, upSound}
 use Rattle.gates.specs.Gates.{atGate, ended, offering, searched}
+use Rattle.gates.specs.declared.Work.{Work}
 use Rattle.delivery.specs.Delivery.{settledAtGate, toGate, withLog}
 use Rattle.kept.proofs.Ends.{upPopped}
 use Rattle.kept.proofs.States.{StateRules}
@@ -87,22 +88,26 @@ module _ (T : Table) (q : Lawful T) (s : State) (log : List ℕ) (R : StateRules
   made k₁ x down silent e n =
       let r = searched-at T q (changed (taskOf s) t (upTaken (taskOf s t) g)) (gateOf s) (newestFirst (s .logged) log) g k₁
       (record { down = ap length down ∙ R .gate g g16 .sized .down }) silent in
-      made-at-gate T s log t g (upTaken (taskOf s t) g) (searched (T .masks) (getD (T .vectors) g 0) g k₁) (protocol.searched (planOf T) x g)
+      made-at-gate T s log t g (upTaken (taskOf s t) g) (searched (T .masks) (getD (T .vectors) g 0) g k₁)
+      (protocol.searched (planOf T) x g)
       (let y = t16 in omega (arith, R .tasks)) (let y = g16 in omega (arith, R .gates))
       (record { good = r .good; is = r .is ∙ ap (λ (y : Line). protocol.searched (planOf T) y g) e }) n
 
-  -- a result ends the negotiation
+  -- a result ends the negotiation of a gate that deals so
+  abbrev endedBy : Bool → Deal → Work
+  endedBy c deal = ended (T .masks) (getD (T .vectors) g 0) g t (offersAfter c t) k deal
+
   by-result : (c : Bool) → X .up t g ≡ result c g ∷ rest
-      → Made T s log (withLog log (settledAtGate s (upPopped s t g) g (ended (T .masks) (getD (T .vectors) g 0) g t (offersAfter c t) k (k .deal))))
+      → Made T s log (withLog log (settledAtGate s (upPopped s t g) g (endedBy c (k .deal))))
   by-result b e =
       let d = gate-dealing (planOf T) (q .right) X i t g b rest e in
       turn (d .0) (d .1) (d .2)
     where
       turn : (v : ℕ) → k .deal ≡ Dealing v → memberOf (maskOf (T .masks) g v) t ≡ true
-          → Made T s log (withLog log (settledAtGate s (upPopped s t g) g (ended (T .masks) (getD (T .vectors) g 0) g t (offersAfter b t) k (k .deal))))
+          → Made T s log (withLog log (settledAtGate s (upPopped s t g) g (endedBy b (k .deal))))
       turn v ev m =
           let returned-is = token-returned (planOf T) X (i .ghost) (i .links) t g v b rest e ev in
-          subst (λ (x : Deal). Made T s log (withLog log (settledAtGate s (upPopped s t g) g (ended (T .masks) (getD (T .vectors) g 0) g t (offersAfter b t) k x)))) (sym ev)
+          subst (λ (x : Deal). Made T s log (withLog log (settledAtGate s (upPopped s t g) g (endedBy b x)))) (sym ev)
           (rw m (made (offering k (offersAfter b t (k .offers) (maskOf (T .masks) g v)) Idle) (resultTaken (planOf T) X t g v b rest) refl
           (λ _ x. i .links .pair x g .down-is ∙ rw returned-is)
           (result-line (taskOf s) (gateOf s) (newestFirst (s .logged) log) t g t16 g-up T v b)

@@ -24,33 +24,32 @@ use Rattle.state.specs.declared.Gate.{Gate}
 use Rattle.state.specs.declared.Mode.{Mode}
 use Rattle.state.specs.declared.State.{State}
 use Rattle.state.specs.declared.Task.{Task}
-use Rattle.tasks.specs.Tasks.{aborted, atTask, committed, heldBy, listHandled, locked}
+use Rattle.tasks.specs.Tasks.{aborted, atTask, begun, committed, heldBy, listHandled, locked}
 use Rattle.tasks.specs.declared.Work.{Work}
 use Rattle.delivery.specs.Delivery.{settledAtTask, toTask}
 use Rattle.kept.proofs.Channels.{one-fits}
 use Rattle.kept.proofs.Ends.{acrossPopped, downPopped}
-use Rattle.kept.proofs.Rules.{SizedTask, acrossFit, downFit, namesOf}
+use Rattle.kept.proofs.Rules.{acrossFit, downFit, namesOf}
 use Rattle.kept.proofs.States.{StateRules}
 use Rattle.protocol.specs.Lines.{Line, held, result}
+use Rattle.protocol.specs.Plans.{changed}
 use Rattle.protocol.specs.Steps.{lockTaken, lockTakenAcross}
 use Rattle.protocol.proofs.Agree.{agree-path}
 use Rattle.protocol.proofs.AtTask.{from-gate, from-task, result-at-task}
 use Rattle.protocol.proofs.Cases.{clash, eqb-same}
-use Rattle.protocol.proofs.Invariant.{Ghost, Invariant, Links}
-use Rattle.protocol.proofs.Phases.{decided, undecided}
-use Rattle.protocol.proofs.Reading.{decided-of, lock-of, lock-same, passed-of, result-same, sent-of}
+use Rattle.protocol.proofs.Fronts.{phase-decided, token-passed, token-sent}
+use Rattle.protocol.proofs.Invariant.{Invariant}
 use Rattle.protocol.proofs.Taken.{pass-links, take-links, tokenTaken}
 use Rattle.protocol.proofs.TokenMoves.{tokenTo}
-use Rattle.protocol.proofs.Tokens.{inHand, passed, sent}
+use Rattle.protocol.proofs.Tokens.{inHand}
 use Rattle.line.specs.Contents.{messages1, requestsOf}
 use Rattle.link.proofs.AtTask.{freedWork, locked-shows, result-shows}
 use Rattle.link.proofs.Channels.{pop-messages1}
-use Rattle.link.proofs.Frame.{gate-changed, part-kept, row-changed-from, row-changed-to, row-kept, set-row, task-changed}
+use Rattle.link.proofs.Frame.{changed-back, gate-changed, part-kept, row-changed-from, row-changed-to, row-kept, set-row, task-changed}
 use Rattle.link.proofs.Made.{Made, made-at-task}
+use Rattle.link.proofs.Shows.{Fit, Shows, begun-shows}
 use Rattle.link.proofs.Tables.{Lawful, planOf}
 use Rattle.link.proofs.View.{acrossList, downList, lineOf, lineWith, newestFirst, upList}
-use Rattle.link.proofs.Works.{Shows}
-use Rattle.protocol.specs.Deliveries as protocol
 
 held-by : (m : Mode) (g v : ℕ) → m ≡ held g v → heldBy g m ≡ true
 held-by m g v e = ap (heldBy g) e ∙ eqb-same g
@@ -62,6 +61,9 @@ module _ (T : Table) (q : Lawful T) (s : State) (log : List ℕ) (R : StateRules
 
   abbrev entries : List Request
   entries = newestFirst (s .logged) log
+
+  fit-at : (t : ℕ) → t < 16 → Fit (taskOf s t)
+  fit-at t l = record { sized = R .task t l .kept .sized; few = R .task t l .kept .few }
 
   -- from gate g to task b
   module _ (g b : ℕ) (hg : g < T .gates) (hb : b < T .tasks) where
@@ -77,8 +79,11 @@ module _ (T : Table) (q : Lawful T) (s : State) (log : List ℕ) (R : StateRules
     b16 : b < 16
     b16 = omega (arith, q .rules .tasks)
 
-    down-taken : lineWith (taskOf s) (gateOf (downPopped s g b)) entries ≡ lockTaken X g b
-    down-taken = ap (λ (f : ℕ → Gate). lineWith (taskOf s) f entries) (gate-changed s g sender (let y = g16 in omega (arith, R .gates)))
+    -- b's task shows the line without the LOCK
+    down-taken : Shows (gateOf (downPopped s g b)) entries b (taskOf s) (begun (taskOf s b)) (lockTaken X g b)
+    down-taken = begun-shows (gateOf (downPopped s g b)) entries b (taskOf s) (taskOf s b) (lockTaken X g b) (fit-at b b16)
+        (ap (λ (f : ℕ → Task). lineWith f (gateOf (downPopped s g b)) entries) (changed-back (taskOf s) b)
+        ∙ ap (λ (f : ℕ → Gate). lineWith (taskOf s) f entries) (gate-changed s g sender (let y = g16 in omega (arith, R .gates)))
         ∙ agree-path (record {
           at = λ t. refl;
           mode = λ t. refl;
@@ -86,24 +91,22 @@ module _ (T : Table) (q : Lawful T) (s : State) (log : List ℕ) (R : StateRules
           offers = row-kept (λ k y. memberOf (k .offers) y) (gateOf s) g sender (λ y. refl);
           deal = part-kept (λ k. k .deal) (gateOf s) g sender refl;
           up = λ t x. refl;
-          down = row-changed-from downList (gateOf s) g b sender [] (set-row messages1 (gateOf s g .down) b empty1 empty1 (let y = b16 in let z = R .gate g g16 .sized .down in omega arith));
+          down = row-changed-from downList (gateOf s) g b sender []
+              (set-row messages1 (gateOf s g .down) b empty1 empty1 (let y = b16 in let z = R .gate g g16 .sized .down in omega arith));
           across = λ x y. refl;
           log = refl;
-        })
+        }))
 
-    down-lock : (r : Request) → r .gate .0 ≡ g → X .down g b ≡ (Lock r) ∷ []
-        → Made T s log (settledAtTask s (downPopped s g b) log b (locked (T .moves) (T .gates) b (T .masks) (taskOf s b) r (taskOf s b .mode)))
+    down-lock : (r : Request) → r .gate .0 ≡ g → X .down g b ≡ Lock r ∷ []
+        → Made T s log (settledAtTask s (downPopped s g b) log b
+        (locked (T .moves) (T .gates) b (T .masks) (taskOf s b) r (taskOf s b .mode)))
     down-lock r eg e =
         let v : ℕ = r .vector in
-        let o = sent-of g b (i .ghost .token g) ((Lock r)) [] (sym (i .links .pair b g .down-is) ∙ e) in
-        let ev : v ≡ o .0 = lock-same (r .gate .0) v g (o .0) (o .2) .1 in
-        let et : i .ghost .token g ≡ sent v b = cc (o .1, ev) in
-        let h₁ : Ghost = tokenTo (i .ghost) g (inHand v b) in
-        let j = subst (λ (y : Line). Links (planOf T) y h₁) (sym down-taken) (take-links (planOf T) X (i .ghost) (i .links) g v b et) in
-        let after = from-gate (planOf T) (q .right) X i g b (r .gate .0) v [] e in
-        let n = subst (λ (y : Line). Invariant (planOf T) (protocol.locked (planOf T) y b r)) (sym down-taken) after in
-        let m = locked-shows T q (gateOf (downPopped s g b)) entries b b16 (taskOf s) (R .task b b16 .kept .sized) (R .task b b16 .kept .few)
-        r h₁ j (rw (eq-eqb (r .gate .0) g eg)) (let y = g16 in omega arith) n in
+        let et = token-sent (planOf T) X (i .ghost) (i .links) g b (r .gate .0) v [] e .1 in
+        let n = from-gate (planOf T) (q .right) X i g b (r .gate .0) v [] e in
+        let m = locked-shows T q (gateOf (downPopped s g b)) entries b b16 (taskOf s) (taskOf s b) r (lockTaken X g b)
+        (tokenTo (i .ghost) g (inHand v b)) down-taken (take-links (planOf T) X (i .ghost) (i .links) g v b et)
+        (rw (eq-eqb (r .gate .0) g eg)) (let y = g16 in omega arith) n in
         made-at-task T s log (downPopped s g b) b b16 _ _ (R .tasks) fits m n
 
     down-message : (m : Message) → downFit T g b m ≡ true → X .down g b ≡ m ∷ []
@@ -138,8 +141,12 @@ module _ (T : Table) (q : Lawful T) (s : State) (log : List ℕ) (R : StateRules
     c16 : b < 16
     c16 = omega (arith, q .rules .tasks)
 
-    across-taken : lineWith S (gateOf s) entries ≡ lockTakenAcross X a b
-    across-taken = ap (λ (f : ℕ → Task). lineWith f (gateOf s) entries) (task-changed s a passer (let y = a16 in omega (arith, R .tasks)))
+    -- b's task shows the line without the message
+    across-taken : Shows (gateOf s) entries b S (begun (taskOf s b)) (lockTakenAcross X a b)
+    across-taken = begun-shows (gateOf s) entries b S (taskOf s b) (lockTakenAcross X a b) (fit-at b c16)
+        (ap (λ (p : Task). lineWith (changed S b p) (gateOf s) entries) (sym same-task)
+        ∙ ap (λ (f : ℕ → Task). lineWith f (gateOf s) entries) (changed-back S b)
+        ∙ ap (λ (f : ℕ → Task). lineWith f (gateOf s) entries) (task-changed s a passer (let y = a16 in omega (arith, R .tasks)))
         ∙ agree-path (record {
           at = part-kept (λ p. p .state) (taskOf s) a passer refl;
           mode = part-kept (λ p. p .mode) (taskOf s) a passer refl;
@@ -148,61 +155,47 @@ module _ (T : Table) (q : Lawful T) (s : State) (log : List ℕ) (R : StateRules
           deal = λ x. refl;
           down = λ x y. refl;
           up = row-kept upList (taskOf s) a passer (λ y. refl);
-          across = row-changed-to acrossList (taskOf s) a b passer [] (set-row messages1 (taskOf s a .across) b empty1 empty1 (let y = c16 in let z = R .task a a16 .kept .sized .across in omega arith));
+          across = row-changed-to acrossList (taskOf s) a b passer []
+              (set-row messages1 (taskOf s a .across) b empty1 empty1 (let y = c16 in let z = R .task a a16 .kept .sized .across in omega arith));
           log = refl;
-        })
+        }))
+      where
+        same-task : S b ≡ taskOf s b
+        same-task = getD-set-other (s .tasks) a b passer noTask (λ p. ne (sym p))
 
-    same-task : S b ≡ taskOf s b
-    same-task = getD-set-other (s .tasks) a b passer noTask (λ p. ne (sym p))
+    made : (w : Work) (x : Line) → Shows (gateOf s) entries b S w x → Invariant (planOf T) x
+        → Made T s log (settledAtTask s (acrossPopped s a b) log b w)
+    made w x = made-at-task T s log (acrossPopped s a b) b c16 w x (length-set (s .tasks) a passer ∙ R .tasks) fits
 
-    sized : SizedTask (S b)
-    sized = subst SizedTask (sym same-task) (R .task b c16 .kept .sized)
-
-    counted : S b .count ≤ 16
-    counted = subst (λ (p : Task). p .count ≤ 16) (sym same-task) (R .task b c16 .kept .few)
-
-    made : (w : Task → Work) (x : Line) → Shows (gateOf s) entries b S (w (S b)) x → Invariant (planOf T) x
-        → Made T s log (settledAtTask s (acrossPopped s a b) log b (w (taskOf s b)))
-    made w x r n = made-at-task T s log (acrossPopped s a b) b c16 (w (taskOf s b)) x (length-set (s .tasks) a passer ∙ R .tasks) fits
-        (subst (λ (p : Task). Shows (gateOf s) entries b S (w p) x) same-task r) n
-
-    across-lock : (r : Request) → a < b → X .across a b ≡ (Lock r) ∷ []
-        → Made T s log (settledAtTask s (acrossPopped s a b) log b (locked (T .moves) (T .gates) b (T .masks) (taskOf s b) r (taskOf s b .mode)))
+    across-lock : (r : Request) → a < b → X .across a b ≡ Lock r ∷ []
+        → Made T s log (settledAtTask s (acrossPopped s a b) log b
+        (locked (T .moves) (T .gates) b (T .masks) (taskOf s b) r (taskOf s b .mode)))
     across-lock r lt e =
         let g : ℕ = r .gate .0 in
         let v : ℕ = r .vector in
-        let o = lock-of b (i .ghost .passedTo a) (i .ghost .phase a) ((Lock r)) [] (sym (i .links .higher a b lt) ∙ e) in
-        let n = lock-same g v (o .0) (o .1) (o .4) in
-        let ep : i .ghost .phase a ≡ undecided g v = cc (o .2, n .0, n .1) in
-        let k = i .links .pair a g in
-        let et : i .ghost .token g ≡ passed v a b = passed-of (planOf T) a b g v (i .ghost .token g) (sym (k .passed-is) ∙ simp (ep, eqb-same, o .3)) (sym (k .undecided-is) ∙ simp (ep, eqb-same)) in
+        let et = token-passed (planOf T) X (i .ghost) (i .links) a b g v [] lt e in
         let hg : g < T .gates = q .present g v b ((rw et at (i .links .gate g .token-right)) .0) .gate in
-        let h₁ : Ghost = tokenTaken (i .ghost) g a (inHand v b) in
-        let j = subst (λ (y : Line). Links (planOf T) y h₁) (sym across-taken) (pass-links (planOf T) X (i .ghost) (i .links) g v a b et) in
-        let n = subst (λ (y : Line). Invariant (planOf T) (protocol.locked (planOf T) y b r)) (sym across-taken) (from-task (planOf T) (q .right) X i a b g v [] lt e) in
-        let m = locked-shows T q (gateOf s) entries b c16 S sized counted r h₁ j (rw eqb-same) (omega (arith, q .rules .gates)) n in
-        made (λ p. locked (T .moves) (T .gates) b (T .masks) p r (p .mode)) _ m n
+        let n = from-task (planOf T) (q .right) X i a b g v [] lt e in
+        made _ _ (locked-shows T q (gateOf s) entries b c16 S (taskOf s b) r (lockTakenAcross X a b)
+        (tokenTaken (i .ghost) g a (inHand v b)) across-taken (pass-links (planOf T) X (i .ghost) (i .links) g v a b et)
+        (rw eqb-same) (omega (arith, q .rules .gates)) n) n
 
     -- the task after a result of gate g, with its waiting list handled
-    abbrev resulted : Bool → ℕ → Task → Work
-    resulted true g p = committed (T .moves) (T .gates) b (T .masks) p g
-    resulted false g p = aborted (T .moves) (T .gates) b (T .masks) p g
+    abbrev resulted : Bool → ℕ → Work
+    resulted true g = committed (T .moves) (T .gates) b (T .masks) (taskOf s b) g
+    resulted false g = aborted (T .moves) (T .gates) b (T .masks) (taskOf s b) g
 
     across-result : (k : Bool) (g : ℕ) → b < a → X .across a b ≡ result k g ∷ []
-        → Made T s log (settledAtTask s (acrossPopped s a b) log b (resulted k g (taskOf s b)))
+        → Made T s log (settledAtTask s (acrossPopped s a b) log b (resulted k g))
     across-result k g lt e =
-        let o = decided-of a (i .ghost .phase b) (result k g) [] (sym (i .links .lower a b lt) ∙ e) in
-        let p = result-same k (o .2) g (o .0) (o .4) in
-        let ep : i .ghost .phase b ≡ decided g (o .1) a k = cc (o .3, p .0, p .1) in
+        let d = phase-decided (planOf T) X (i .ghost) (i .links) a b g k [] lt e in
         let f = result-at-task (planOf T) (q .right) X i a b g k [] lt e in
-        let held : heldBy g (S b .mode) ≡ true = held-by (S b .mode) g (f .0 .0) (ap (λ (p : Task). p .mode) same-task ∙ f .0 .1) in
-        let ready : readyOf (T .moves) b (S b .state) g ≡ true = ap (λ (p : Task). readyOf (T .moves) b (p .state) g) same-task ∙ f .0 .2 in
-        let m = result-shows T q (gateOf s) entries b c16 S sized counted X i a g (o .1) k ep across-taken in
-        made (resulted k g) _ (subst (λ (w : Work). Shows (gateOf s) entries b S w (protocol.listHandled (planOf T) (protocol.freed (planOf T) X a b g k) b (X .waiting b)))
-        (sym (same-work k held ready)) m) (f .1)
+        let m = result-shows T q (gateOf s) entries b c16 S (taskOf s b) X i a g (d .0) k (d .1) across-taken in
+        subst (λ (w : Work). Made T s log (settledAtTask s (acrossPopped s a b) log b w))
+        (sym (same-work k (held-by (taskOf s b .mode) g (f .0 .0) (f .0 .1)) (f .0 .2))) (made _ _ m (f .1))
       where
-        same-work : (k : Bool) → heldBy g (S b .mode) ≡ true → readyOf (T .moves) b (S b .state) g ≡ true
-            → resulted k g (S b) ≡ listHandled (T .moves) (T .gates) b (T .masks) (S b .count) (freedWork T b (S b) g k)
+        same-work : (k : Bool) → heldBy g (taskOf s b .mode) ≡ true → readyOf (T .moves) b (taskOf s b .state) g ≡ true
+            → resulted k g ≡ listHandled (T .moves) (T .gates) b (T .masks) (taskOf s b .count) (freedWork T b (taskOf s b) g k)
         same-work true held ready = rw (held, ready)
         same-work false held ready = rw held
 

@@ -1,32 +1,33 @@
--- Work at a task so far, as a state of the protocol; and its parts: a result sent, a move with its announcement.
-use Prim.Native.Nat.{ℕ, _+_, _<_, _≤_, suc, zero}
+-- The steps of work at a task are the protocol's: Free, an entry, a LOCK passed on, a move with its announcement, a result sent.
+use Prim.Native.Nat.{ℕ, _<_, _≤_}
 use mathlib.Core.Bool.{Bool, _&&_, cond, false, true}
-use mathlib.Core.List.{List, [], _∷_}
-use mathlib.Core.Path.{_≡_, _∙_, ap, refl, sym}
-use native.Mathlib.Numerals.{add-one}
+use mathlib.Core.List.{List, [], _++_, _∷_}
+use mathlib.Core.Option.{none}
+use mathlib.Core.Path.{_≡_, _∙_, ap, refl, subst, sym}
 use native.Mathlib.Omega.{arith}
 use lib.Dec.{ltb}
-use lib.ListN.{getD, length, length-set, set}
-use lib.Seq.{getD-set-other, getD-set-same}
+use lib.ListN.{length, length-set}
 use borrow.Author.Tests.{lt-ltb}
 use Rattle.laws.proofs.Tests.{and-true}
 use Rattle.sets.specs.Sets.{memberOf}
 use Rattle.table.specs.Tables.{maskOf, readyOf}
 use Rattle.table.specs.declared.Move.the-variants.{To}
 use Rattle.table.specs.declared.Table.{Table}
-use Rattle.channels.specs.Channels.{empty3, noRequest, put3}
+use Rattle.channels.specs.Channels.{empty1, empty3, put1, put3}
+use Rattle.channels.specs.declared.Channel1.{Channel1}
+use Rattle.channels.specs.declared.Channel3.{Channel3}
 use Rattle.channels.specs.declared.Message.{Message}
+use Rattle.channels.specs.declared.Message.the-variants.{Lock}
 use Rattle.channels.specs.declared.Request.{Request}
-use Rattle.state.specs.States.{atState, upOf, withMode, withUp}
+use Rattle.state.specs.States.{acrossOf, atState, upOf, withAcross, withMode, withUp}
 use Rattle.state.specs.declared.Gate.{Gate}
-use Rattle.state.specs.declared.Mode.the-variants.{Free}
+use Rattle.state.specs.declared.Mode.the-variants.{Free, Held}
 use Rattle.state.specs.declared.Task.{Task}
-use Rattle.tasks.specs.Tasks.{announced, movedTo, sent, sentBelow}
+use Rattle.tasks.specs.Tasks.{announced, entered, movedTo, sent, sentBelow, toTask, with}
 use Rattle.tasks.specs.declared.Work.{Work}
-use Rattle.kept.proofs.Rules.{SizedTask}
 use Rattle.protocol.specs.Lines.{Line, readyIf, result}
 use Rattle.protocol.specs.Plans.{changed}
-use Rattle.protocol.specs.Steps.{resultSent, withReady}
+use Rattle.protocol.specs.Steps.{forwarded, resultSent, withReady}
 use Rattle.protocol.proofs.Agree.{agree-path}
 use Rattle.protocol.proofs.Cases.{diff, eq-case, eqb-same, same}
 use Rattle.protocol.proofs.Decided.{below-undecided}
@@ -35,31 +36,15 @@ use Rattle.protocol.proofs.Moved.{announce-links, announcedGhost}
 use Rattle.protocol.proofs.Phases.{idle}
 use Rattle.protocol.proofs.Room.{up-room}
 use Rattle.protocol.proofs.Tokens.{inHand}
-use Rattle.line.specs.Contents.{messages3, requestsOf}
-use Rattle.link.proofs.Channels.{put-messages3, room3}
-use Rattle.link.proofs.Frame.{changed-twice, part-changed, part-kept, row-changed-to, row-kept, set-row}
-use Rattle.link.proofs.Loops.{allowed, send, tell, withAcrosses}
+use Rattle.line.specs.Contents.{messages1, messages3, requestsOf}
+use Rattle.link.proofs.Channels.{empty-count1, put-messages1, put-messages3, room3}
+use Rattle.link.proofs.Entries.{entries-more}
+use Rattle.link.proofs.Frame.{changed-at, set-row, swap-kept, swap-part, swap-row}
+use Rattle.link.proofs.Loops.{allowed, allowedIf, send, tell, withAcrosses, withUps}
+use Rattle.link.proofs.Shows.{Shows, allowed-shows, lineAt, own-across, own-up, shows-all}
 use Rattle.link.proofs.Tables.{Lawful, planOf}
 use Rattle.link.proofs.View.{acrossList, lineWith, upList}
 use Rattle.protocol.specs.Steps as step
-
--- the first n entries of a delivery, the newest first, before those of the log
-abbrev pub entriesWith : ℕ → List Request → List Request → List Request
-entriesWith zero entries log = log
-entriesWith (suc n) entries log = (getD entries n noRequest) ∷ entriesWith n entries log
-
-entries-keep : (m n : ℕ) (entries : List Request) (r : Request) (log : List Request) → m ≤ n
-    → entriesWith m (set entries n r) log ≡ entriesWith m entries log
-entries-keep zero n entries r log h = refl
-entries-keep (suc m) n entries r log h =
-    rw (entries-keep m n entries r log (omega arith))
-    (ap (λ q. q ∷ entriesWith m entries log) (getD-set-other entries n m r noRequest (λ p. absurd (omega arith))))
-
-pub entries-more : (n : ℕ) (entries : List Request) (r : Request) (log : List Request) → n < length entries
-    → entriesWith (n + 1) (set entries n r) log ≡ r ∷ entriesWith n entries log
-entries-more n entries r log h =
-    rw add-one (rw (entries-keep n n entries r log (omega arith))
-    (ap (λ q. q ∷ entriesWith n entries log) (getD-set-same entries n r noRequest h)))
 
 -- task b is Free
 abbrev pub freed : Line → ℕ → Line
@@ -78,65 +63,115 @@ ready-room T q s h j t g =
     (announce-links (planOf T) s h t all j) t g in
     rw eqb-same at r
 
-module _ (G : ℕ → Gate) (log : List Request) (b : ℕ) where
-  -- the work w at b, where the other tasks are S, is the protocol's line x
-  pub record Shows (S : ℕ → Task) (w : Work) (x : Line) : Type 0 where
-    pub good : w .ok ≡ true
-    pub sized : SizedTask (w .task)
-    pub few : w .task .count ≤ 16
-    pub long : length (w .entries) ≡ 16
-    pub is : lineWith (changed S b (w .task)) G (entriesWith (w .fired) (w .entries) log) ≡ x
+module _ (G : ℕ → Gate) (log : List Request) (b : ℕ) (S : ℕ → Task) where
+  abbrev ShowsHere : Work → Line → Type 0
+  ShowsHere w x = Shows G log b S w x
 
-  pub shows-back : {S : ℕ → Task} (p : Task) {w : Work} {x : Line} → Shows (changed S b p) w x → Shows S w x
-  shows-back {S} p {w} {x} r = record {
-    good = r .good;
-    sized = r .sized;
-    few = r .few;
-    long = r .long;
-    is = ap (λ (f : ℕ → Task). lineWith f G (entriesWith (w .fired) (w .entries) log)) (sym (changed-twice S b p (w .task))) ∙ r .is;
-  }
+  -- b is Free
+  pub freed-shows : (w : Work) (x : Line) → ShowsHere w x → ShowsHere (with w (withMode (w .task) Free) (w .ok)) (freed x b)
+  freed-shows = shows-all G log b S (λ w x. ShowsHere (with w (withMode (w .task) Free) (w .ok)) (freed x b)) (λ p n E z l. record {
+    good = refl;
+    fit = record { sized = record { waiting = z .sized .waiting; up = z .sized .up; across = z .sized .across }; few = z .few };
+    long = l;
+    is = agree-path (record {
+      at = swap-kept (λ p. p .state) S b p (withMode p Free) refl;
+      mode = swap-part (λ p. p .mode) S b p (withMode p Free) Free refl;
+      waiting = swap-kept requestsOf S b p (withMode p Free) refl;
+      offers = λ g t. refl;
+      deal = λ g. refl;
+      up = λ x g. swap-kept (λ p. upList p g) S b p (withMode p Free) refl x;
+      down = λ g t. refl;
+      across = λ x c. swap-kept (λ p. acrossList p c) S b p (withMode p Free) refl x;
+      log = refl;
+    });
+  })
 
-module _ (T : Table) (q : Lawful T) (G : ℕ → Gate) (log : List Request) (b : ℕ) (hb : b < 16) where
-  module _ (S : ℕ → Task) (n : ℕ) (E : List Request) (z : SizedTask (S b)) (counted : S b .count ≤ 16) (entered : length E ≡ 16) where
-    abbrev p : Task
-    p = S b
+  -- the entry of request r
+  pub entered-shows : (r : Request) (w : Work) (x : Line) → ShowsHere w x → w .fired < 16
+      → ShowsHere (entered w r) (step.entered x (r .gate .0) (r .vector))
+  entered-shows r = shows-all G log b S
+      (λ w x. w .fired < 16 → ShowsHere (entered w r) (step.entered x (r .gate .0) (r .vector))) (λ p n E z l room. record {
+        good = refl;
+        fit = z;
+        long = simp length-set l;
+        is = ap (λ (l : List Request). lineWith (changed S b p) G l) (entries-more n E r log (omega arith));
+      })
 
-    abbrev X : Line
-    X = lineWith S G (entriesWith n E log)
+  -- LOCK to a higher task, and Held
+  pub passed-shows : (r : Request) (c : ℕ) → c < 16 → (w : Work) (x : Line) → ShowsHere w x → x .across b c ≡ []
+      → ShowsHere (toTask (with w (withMode (w .task) (Held r)) (w .ok)) c (Lock r)) (forwarded x (r .gate .0) (r .vector) b c)
+  passed-shows r c hc = shows-all G log b S
+      (λ w x. x .across b c ≡ []
+      → ShowsHere (toTask (with w (withMode (w .task) (Held r)) (w .ok)) c (Lock r)) (forwarded x (r .gate .0) (r .vector) b c))
+      (λ p n E z l none.
+      let d : Channel1 = acrossOf p c in
+      let s = allowed-shows G log b S p n E z l in
+      let empty : messages1 d ≡ [] = sym (own-across G log b S (allowed p n E) (lineAt G log b S p n E) c s) ∙ none in
+      let q : Task = withAcross (withMode p (Held r)) c (put1 d (Lock r)) in
+      let lc : c < length (p .across) = omega (arith, z .sized .across) in
+      record {
+        good = rw (empty-count1 d empty);
+        fit = record {
+          sized = record { waiting = z .sized .waiting; up = z .sized .up; across = simp length-set (z .sized .across) };
+          few = z .few;
+        };
+        long = l;
+        is = agree-path (record {
+          at = swap-kept (λ p. p .state) S b p q refl;
+          mode = swap-part (λ p. p .mode) S b p q (Held r) refl;
+          waiting = swap-kept requestsOf S b p q refl;
+          offers = λ g t. refl;
+          deal = λ g. refl;
+          up = λ x g. swap-kept (λ p. upList p g) S b p q refl x;
+          down = λ g t. refl;
+          across = swap-row acrossList S b c p q _ (λ y. set-row messages1 (p .across) c (put1 d (Lock r)) empty1 lc y
+              ∙ ap (λ m. changed (acrossList p) c m y) (put-messages1 d (Lock r) empty
+              ∙ ap (λ m. m ++ Lock r ∷ []) (ap (λ p. acrossList p c) (sym (changed-at S b p)))));
+          log = refl;
+        });
+      })
 
+  module _ (T : Table) (q : Lawful T) (hb : b < 16) where
     -- b moves to y, is Free and announces itself
-    pub moved-shows : ((g : ℕ) → length (withReady (upList p g)) ≤ 3) → (y : ℕ)
-        → Shows G log b S (movedTo (T .moves) (T .gates) b (To y) (allowed p n E)) (step.moved (planOf T) (freed X b) b y)
+    pub moved-shows : (y : ℕ) (w : Work) (x : Line) → ShowsHere w x → ((g : ℕ) → length (withReady (x .up b g)) ≤ 3)
+        → ShowsHere (movedTo (T .moves) (T .gates) b (To y) w) (step.moved (planOf T) (freed x b) b y)
     unfolding announced
-    moved-shows room y =
-        let r = tell (T .moves) (T .gates) b y (withMode (atState p y) Free) n E (z .up) room (T .gates) (q .rules .gates) in
-        rw (r .is) (record {
+    moved-shows y = shows-all G log b S
+        (λ w x. ((g : ℕ) → length (withReady (x .up b g)) ≤ 3)
+        → ShowsHere (movedTo (T .moves) (T .gates) b (To y) w) (step.moved (planOf T) (freed x b) b y))
+        (λ p n E z l small.
+        let s = allowed-shows G log b S p n E z l in
+        let room : (g : ℕ) → length (withReady (upList p g)) ≤ 3 = λ g.
+        subst (λ m. length (withReady m) ≤ 3) (own-up G log b S (allowed p n E) (lineAt G log b S p n E) g s) (small g) in
+        let t = tell (T .moves) (T .gates) b y (withMode (atState p y) Free) n E (z .sized .up) room (T .gates) (q .rules .gates) in
+        let new : Task = withUps (withMode (atState p y) Free) (t .channels) in
+        rw (t .is) (record {
           good = refl;
-          sized = record { waiting = z .waiting; up = r .long; across = z .across };
-          few = counted;
-          long = entered;
+          fit = record { sized = record { waiting = z .sized .waiting; up = t .long; across = z .sized .across }; few = z .few };
+          long = l;
           is = agree-path (record {
-            at = part-changed (λ p. p .state) S b _ y refl;
-            mode = part-changed (λ p. p .mode) S b _ Free refl;
-            waiting = part-kept requestsOf S b _ refl;
+            at = swap-part (λ p. p .state) S b p new y refl;
+            mode = swap-part (λ p. p .mode) S b p new Free refl;
+            waiting = swap-kept requestsOf S b p new refl;
             offers = λ g t. refl;
             deal = λ g. refl;
             down = λ g t. refl;
             up = λ x g. elim (eq-case x b) [
               | diff d e ↦ rw e
-              | same d e ↦ rw (e, d) (r .row g ∙ ap (λ c. cond c (withReady (upList p g)) (upList p g)) (here g (readyOf (T .moves) b y g) refl))
+              | same d e ↦ rw e (t .row g ∙ ap (λ c. cond c (withReady (upList p g)) (upList p g)) (here g (readyOf (T .moves) b y g) refl))
             ];
-            across = row-kept acrossList S b _ (λ y. refl);
+            across = λ x c. swap-kept (λ p. acrossList p c) S b p new refl x;
             log = refl;
           });
-        })
+        }))
       where
         here : (g : ℕ) (c : Bool) → readyOf (T .moves) b y g ≡ c → (c && ltb g (T .gates)) ≡ c
         here g true e = lt-ltb g (T .gates) (q .leads b y g e .gate)
         here g false e = refl
 
-    module _ (h : Ghost) (j : Links (planOf T) X h) (r : Request) (et : h .token (r .gate .0) ≡ inHand (r .vector) b)
-        (eb : h .phase b ≡ idle) (hg : r .gate .0 < 16) where
+    -- the result k of request r to each lower task, then to the gate
+    module _ (h : Ghost) (r : Request) (et : h .token (r .gate .0) ≡ inHand (r .vector) b) (eb : h .phase b ≡ idle)
+        (hg : r .gate .0 < 16) (k : Bool) where
       abbrev g : ℕ
       g = r .gate .0
 
@@ -146,46 +181,42 @@ module _ (T : Table) (q : Lawful T) (G : ℕ → Gate) (log : List Request) (b :
       abbrev mask : ℕ
       mask = maskOf (T .masks) g v
 
-      lower-empty : (y : ℕ) → memberOf mask y ≡ true → y < b → acrossList p y ≡ []
-      lower-empty y e l = j .lower b y l ∙ rw (below-undecided (planOf T) X h j g v b true et eb y (and-true _ _ e (lt-ltb y b l)))
-
-      room : upOf p g .count < 3
-      room = room3 (upOf p g) (rw (j .pair b g .up-is, et) (ready-small (h .readyLast b g)))
-
-      -- the result to each lower task, then to the gate
-      pub record Decided (k : Bool) : Type 0 where
-        pub task : Task
-        pub is : sent b mask g (result k g) (allowed p n E) ≡ allowed task n E
-        pub sized : SizedTask task
-        pub few : task .count ≤ 16
-        pub line : lineWith (changed S b task) G (entriesWith n E log) ≡ resultSent (planOf T) X g v b k
-
-      pub decided : (k : Bool) → Decided k
+      pub sent-shows : (w : Work) (x : Line) → ShowsHere w x → Links (planOf T) x h
+          → ShowsHere (sent b mask g (result k g) w) (resultSent (planOf T) x g v b k)
       unfolding sentBelow
-      decided k =
+      sent-shows = shows-all G log b S
+          (λ w x. Links (planOf T) x h → ShowsHere (sent b mask g (result k g) w) (resultSent (planOf T) x g v b k))
+          (λ p n E z l j.
+          let X : Line = lineAt G log b S p n E in
+          let s = allowed-shows G log b S p n E z l in
           let m : Message = result k g in
-          let s = send mask m p n E (z .across) b (omega arith) lower-empty in
-          let d = upOf p g in
-          let lg : g < length (p .up) = omega (arith, z .up) in
-          let new : Task = withUp (withAcrosses p (s .channels)) g (put3 d m) in
-          record {
-            task = new;
-            is = rw (s .is) (ap (λ a. record { task = new; ok = a; fired = n; entries = E }) (lt-ltb _ 3 room));
-            sized = record { waiting = z .waiting; up = simp length-set (z .up); across = s .long };
-            few = counted;
-            line = agree-path (record {
-              at = part-kept (λ p. p .state) S b _ refl;
-              mode = part-kept (λ p. p .mode) S b _ refl;
-              waiting = part-kept requestsOf S b _ refl;
+          let d : Channel3 = upOf p g in
+          let up-is : messages3 d ≡ X .up b g = sym (own-up G log b S (allowed p n E) X g s) in
+          let lower-empty : (y : ℕ) → memberOf mask y ≡ true → y < b → acrossList p y ≡ [] = λ y e lt.
+          sym (own-across G log b S (allowed p n E) X y s) ∙ j .lower b y lt
+          ∙ rw (below-undecided (planOf T) X h j g v b true et eb y (and-true _ _ e (lt-ltb y b lt))) in
+          let room : d .count < 3 = room3 d (rw (up-is ∙ j .pair b g .up-is, et) (ready-small (h .readyLast b g))) in
+          let t = send mask m p n E (z .sized .across) b (omega arith) lower-empty in
+          let lg : g < length (p .up) = omega (arith, z .sized .up) in
+          let new : Task = withUp (withAcrosses p (t .channels)) g (put3 d m) in
+          let done : sent b mask g m (allowed p n E) ≡ allowed new n E = rw (t .is) (ap (λ ok. allowedIf ok new n E) (lt-ltb _ 3 room)) in
+          subst (λ (u : Work). ShowsHere u (resultSent (planOf T) X g v b k)) (sym done) (record {
+            good = refl;
+            fit = record {
+              sized = record { waiting = z .sized .waiting; up = simp length-set (z .sized .up); across = t .long };
+              few = z .few;
+            };
+            long = l;
+            is = agree-path (record {
+              at = swap-kept (λ p. p .state) S b p new refl;
+              mode = swap-kept (λ p. p .mode) S b p new refl;
+              waiting = swap-kept requestsOf S b p new refl;
               offers = λ g t. refl;
               deal = λ g. refl;
               down = λ g t. refl;
-              up = row-changed-to upList S b g _ _ (λ y. set-row messages3 (p .up) g (put3 d m) empty3 lg y
-                  ∙ ap (λ l. changed (upList p) g l y) (put-messages3 d m room));
-              across = λ x y. elim (eq-case x b) [
-                | diff d e ↦ rw e
-                | same d e ↦ rw (e, d) (s .row y)
-              ];
+              up = swap-row upList S b g p new _ (λ y. set-row messages3 (p .up) g (put3 d m) empty3 lg y
+                  ∙ ap (λ l. changed (upList p) g l y) (put-messages3 d m room ∙ ap (λ l. l ++ m ∷ []) up-is));
+              across = λ x y. elim (eq-case x b) [ diff f e ↦ rw e | same f e ↦ rw e (t .row y) ];
               log = refl;
             });
-          }
+          }))

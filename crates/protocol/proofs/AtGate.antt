@@ -56,7 +56,8 @@ module _ (P : Plan) (W : PlanRight P) where
         go Idle e = found (P .fitting g (s .offers g)) refl (home-of (h .token g) (sym (j .gate g .deal-is) ∙ e))
         go (Dealing v) e = rested (λ k. clash (cc (j .gate g .deal-is)))
 
-  pub ready-at-gate : (s : Line) → Invariant P s → (t g : ℕ) (l : List Message) → s .up t g ≡ Ready ∷ l → Invariant P (searched P (readyTaken s t g l) g)
+  pub ready-at-gate : (s : Line) → Invariant P s → (t g : ℕ) (l : List Message) → s .up t g ≡ Ready ∷ l
+      → Invariant P (searched P (readyTaken s t g l) g)
   ready-at-gate s i t g l e =
       search-ok (readyTaken s t g l) (readyTakenGhost (i .ghost) t g) (ready-links P s (i .ghost) (i .links) t g l e)
       (ready-meaning P s (i .ghost) (i .links) t g l e (i .meaning)) g (i .none-in-hand) (i .none-waits) (λ x n. rw (eqb-diff x g n) (i .searched x))

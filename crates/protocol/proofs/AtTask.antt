@@ -3,7 +3,7 @@ use Prim.Native.Nat.{ℕ, _<_}
 use mathlib.Core.Bool.{Bool, true, false, cond}
 use mathlib.Core.List.{List, [], _∷_, _++_}
 use mathlib.Core.Logic.{_≢_}
-use mathlib.Core.Path.{_≡_, refl, sym, ap, _∙_}
+use mathlib.Core.Path.{_≡_, refl, ap, _∙_}
 use Rattle.channels.specs.declared.Message.{Message}
 use Rattle.tasks.specs.Tasks.{isFree}
 use Rattle.protocol.specs.Plans.{Plan, changed}
@@ -11,10 +11,11 @@ use Rattle.protocol.specs.Lines.{Line, request, lock, result, held}
 use Rattle.protocol.specs.Steps.{lockTaken, lockTakenAcross, withList, released}
 use Rattle.protocol.specs.Deliveries.{handled, listHandled, locked, freed}
 use Rattle.protocol.proofs.Cases.{same, diff, eq-case, eqb-same, eqb-diff, clash}
-use Rattle.protocol.proofs.Tokens.{home, sent, queued, inHand}
-use Rattle.protocol.proofs.Phases.{idle, undecided, decided}
-use Rattle.protocol.proofs.Invariant.{Ghost, PlanRight, Links, Meaning, NoneFits, Invariant}
-use Rattle.protocol.proofs.Reading.{free-of, sent-of, lock-of, passed-of, decided-of, lock-same, result-same}
+use Rattle.protocol.proofs.Tokens.{home, queued, inHand}
+use Rattle.protocol.proofs.Phases.{idle, decided}
+use Rattle.protocol.proofs.Invariant.{Ghost, PlanRight, Links, Meaning, NoneFits, Busy, Invariant}
+use Rattle.protocol.proofs.Reading.{free-of}
+use Rattle.protocol.proofs.Fronts.{token-sent, token-passed, phase-decided}
 use Rattle.protocol.proofs.TokenMoves.{tokenTo, token-meaning}
 use Rattle.protocol.proofs.Taken.{take-links, tokenTaken, pass-links}
 use Rattle.protocol.proofs.Listed.{enqueue-links}
@@ -67,9 +68,8 @@ module _ (P : Plan) (W : PlanRight P) where
   pub from-gate : (s : Line) → Invariant P s → (g b x v : ℕ) (l : List Message) → s .down g b ≡ lock x v ∷ l
       → Invariant P (locked P (lockTaken s g b) b (request x v))
   from-gate s i g b x v l e =
-      let o = sent-of g b (i .ghost .token g) (lock x v) l (sym (i .links .pair b g .down-is) ∙ e) in
-      let n = lock-same x v g (o .0) (o .2) in
-      let et : i .ghost .token g ≡ sent v b = cc (o .1, n .1) in
+      let n = token-sent P s (i .ghost) (i .links) g b x v l e in
+      let et = n .1 in
       rw (n .0) (lock-ok (lockTaken s g b) (tokenTo (i .ghost) g (inHand v b)) (take-links P s (i .ghost) (i .links) g v b et)
       (token-meaning P s (lockTaken s g b) (i .ghost) (i .meaning) g (inHand v b) (i .ghost .passedTo) refl refl refl (λ t _. refl) (λ t a. rw et at a))
       g v b (rw eqb-same) (λ y w t p. rw (eqb-diff y g p) (i .none-in-hand y w t)) (i .none-waits)
@@ -80,49 +80,46 @@ module _ (P : Plan) (W : PlanRight P) where
       → Invariant P (locked P (lockTakenAcross s a b) b (request g v))
   from-task s i a b g v l lt e =
       let h = i .ghost in
-      let o = lock-of b (h .passedTo a) (h .phase a) (lock g v) l (sym (i .links .higher a b lt) ∙ e) in
-      let n = lock-same g v (o .0) (o .1) (o .4) in
-      let ep : h .phase a ≡ undecided g v = cc (o .2, n .0, n .1) in
-      let q = i .links .pair a g in
-      let et = passed-of P a b g v (h .token g) (sym (q .passed-is) ∙ simp (ep, eqb-same, o .3)) (sym (q .undecided-is) ∙ simp (ep, eqb-same)) in
+      let et = token-passed P s h (i .links) a b g v l lt e in
       lock-ok (lockTakenAcross s a b) (tokenTaken h g a (inHand v b)) (pass-links P s h (i .links) g v a b et)
       (token-meaning P s (lockTakenAcross s a b) h (i .meaning) g (inHand v b) (changed (h .passedTo) a _) refl refl refl (λ t _. refl) (λ t k. rw et at k))
       g v b (rw eqb-same) (λ y w t p. rw (eqb-diff y g p) (i .none-in-hand y w t)) (i .none-waits)
       (λ y. elim (eq-case y g) [ same p f ↦ rw f (λ z. clash (cc)) | diff p f ↦ rw f (i .searched y) ])
 
+  -- task t, freed by u's result k: its list is left to be handled
+  pub freed-busy : (s : Line) (i : Invariant P s) (u t g v : ℕ) (k : Bool) → i .ghost .phase t ≡ decided g v u k
+      → (h : Ghost) × Busy P (freed P s u t g k) h t × (freed P s u t g k .waiting t ≡ s .waiting t)
+  freed-busy s i u t g v true ep = (
+    announcedGhost (releasedGhost (i .ghost) t) t (P .ready t (P .target t (s .at t) g)),
+    record {
+      links = move-links P (released s u t) (releasedGhost (i .ghost) t) t (P .target t (s .at t) g)
+          (release-links P s (i .ghost) (i .links) g v u t true ep);
+      meaning = commit-meaning P s (i .ghost) (i .meaning) g v u t ep;
+      none-in-hand = i .none-in-hand;
+      none-waits = λ x n. rw (eqb-diff x t n) (i .none-waits x);
+      searched = i .searched;
+    },
+    refl,
+  )
+  freed-busy s i u t g v false ep = (
+    releasedGhost (i .ghost) t,
+    record {
+      links = release-links P s (i .ghost) (i .links) g v u t false ep;
+      meaning = abort-meaning P s (i .ghost) (i .links) g v u t false ep (i .meaning) refl;
+      none-in-hand = i .none-in-hand;
+      none-waits = λ x n. rw (eqb-diff x t n) (i .none-waits x);
+      searched = i .searched;
+    },
+    refl,
+  )
+
   -- a result from u at task t: t is held by that gate and ready, and the invariant holds again
   pub result-at-task : (s : Line) (i : Invariant P s) (u t g : ℕ) (k : Bool) (l : List Message) → t < u → s .across u t ≡ result k g ∷ l
       → ((v : ℕ) × (s .mode t ≡ held g v) × (P .ready t (s .at t) g ≡ true)) × Invariant P (listHandled P (freed P s u t g k) t (s .waiting t))
   result-at-task s i u t g k l lt e =
-      let o = decided-of u (i .ghost .phase t) (result k g) l (sym (i .links .lower u t lt) ∙ e) in
-      let r = result-same k (o .2) g (o .0) (o .4) in
-      let ep : i .ghost .phase t ≡ decided g (o .1) u k = cc (o .3, r .0, r .1) in
-      (facts (o .1) ep, go k ep)
+      let d = phase-decided P s (i .ghost) (i .links) u t g k l lt e in
+      let b = freed-busy s i u t g (d .0) k (d .1) in
+      (facts (d .0) (d .1), list-ok P W (s .waiting t) (freed P s u t g k) (b .0) t (b .2) (b .1))
     where
-      h : Ghost
-      h = i .ghost
-
-      to : ℕ
-      to = P .target t (s .at t) g
-
-      facts : (v : ℕ) → h .phase t ≡ decided g v u k → (v : ℕ) × (s .mode t ≡ held g v) × (P .ready t (s .at t) g ≡ true)
+      facts : (v : ℕ) → i .ghost .phase t ≡ decided g v u k → (v : ℕ) × (s .mode t ≡ held g v) × (P .ready t (s .at t) g ≡ true)
       facts v ep = (v, i .links .task t .mode-is ∙ rw ep, rw ep at (i .meaning .held-ready t))
-
-      others : (x : ℕ) → x ≢ t → changed (h .phase) t idle x ≡ idle → s .waiting x ≡ []
-      others x n = rw (eqb-diff x t n) (i .none-waits x)
-
-      go : {v : ℕ} (c : Bool) → h .phase t ≡ decided g v u c → Invariant P (listHandled P (freed P s u t g c) t (s .waiting t))
-      go {v} true ep = list-ok P W (s .waiting t) (freed P s u t g true) (announcedGhost (releasedGhost h t) t (P .ready t to)) t refl (record {
-        links = move-links P (released s u t) (releasedGhost h t) t to (release-links P s h (i .links) g v u t true ep);
-        meaning = commit-meaning P s h (i .meaning) g v u t ep;
-        none-in-hand = i .none-in-hand;
-        none-waits = others;
-        searched = i .searched;
-      })
-      go {v} false ep = list-ok P W (s .waiting t) (freed P s u t g false) (releasedGhost h t) t refl (record {
-        links = release-links P s h (i .links) g v u t false ep;
-        meaning = abort-meaning P s h (i .links) g v u t false ep (i .meaning) refl;
-        none-in-hand = i .none-in-hand;
-        none-waits = others;
-        searched = i .searched;
-      })

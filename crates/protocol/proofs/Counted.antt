@@ -106,7 +106,8 @@ module _ (g : ℕ) where
   results (some false) false true = refl
   results (some false) false false = refl
 
-module _ (P : Plan) (W : PlanRight P) (n m : ℕ) (tasks-in : P .tasks ≤ n) (gates-in : P .gates ≤ m) (s : Line) (h : Ghost) (j : Links P s h) (g : ℕ) where
+module _ (P : Plan) (W : PlanRight P) (n m : ℕ) (tasks-in : P .tasks ≤ n) (gates-in : P .gates ≤ m) (s : Line) (h : Ghost)
+    (j : Links P s h) (g : ℕ) where
   down-locks : (x t : ℕ) → countOf (isLockOf g) (s .down x t) ≡ cond (eqb x g) (countOf (isLockOf g) (downMessages g t (h .token g))) 0
   down-locks x t = elim (eq-case x g) [
     | same p e ↦ rw (e, p, j .pair t g .down-is)
@@ -178,6 +179,7 @@ module _ (P : Plan) (W : PlanRight P) (n m : ℕ) (tasks-in : P .tasks ≤ n) (g
   counted (inHand v b) e out = absurd (out v b refl)
   counted (returned v u k) e out = rw (none-up, none-down (λ t. rw e), none-across (λ t. rw e), none-waiting (λ t. rw e), one-result e)
 
-pub one-under-way : (P : Plan) (W : PlanRight P) (n m : ℕ) → P .tasks ≤ n → P .gates ≤ m → (s : Line) → Invariant P s → (g : ℕ) → underWay n m s g ≡ dealing (s .deal g)
+pub one-under-way : (P : Plan) (W : PlanRight P) (n m : ℕ) → P .tasks ≤ n → P .gates ≤ m → (s : Line) → Invariant P s → (g : ℕ)
+    → underWay n m s g ≡ dealing (s .deal g)
 one-under-way P W n m tasks-in gates-in s i g =
     rw (i .links .gate g .deal-is) (counted P W n m tasks-in gates-in s (i .ghost) (i .links) g (i .ghost .token g) refl (i .none-in-hand g))

@@ -25,7 +25,8 @@ module _ (P : Plan) (s : Line) (h : Ghost) (j : Links P s h) (g v b : ℕ) (et :
   }
     where
       here : (y : ℕ) → EqCase y b
-          → PairLinks P y g (s .waiting y) (s .up y g) (cond (eqb y b) (s .down g b ++ lock g v ∷ []) (s .down g y)) (sent v b) (h .phase y) (h .passedTo y) (h .readyBefore y g) (h .readyLast y g)
+          → PairLinks P y g (s .waiting y) (s .up y g) (cond (eqb y b) (s .down g b ++ lock g v ∷ []) (s .down g y)) (sent v b)
+          (h .phase y) (h .passedTo y) (h .readyBefore y g) (h .readyLast y g)
       here y c = let q = j .pair y g in record {
         up-is = rw et at (q .up-is);
         down-is = elim c [ same p e ↦ rw e (simp (j .pair b g .down-is, et)) | diff p e ↦ rw e (q .down-is ∙ rw et) ];

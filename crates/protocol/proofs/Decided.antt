@@ -14,7 +14,7 @@ use Rattle.protocol.specs.Steps.{resultSent}
 use Rattle.protocol.proofs.Cases.{EqCase, same, diff, eq-case, eqb-same, and-yes, and-no, clash}
 use Rattle.protocol.proofs.Tokens.{inHand, returned, upMessages}
 use Rattle.protocol.proofs.Phases.{idle, undecided, decided, higherMessages, lowerMessages, commits, HeldReady, replayOf}
-use Rattle.protocol.proofs.Invariant.{Ghost, TaskLinks, PairLinks, PairAt, Links, Covered, by-ready, by-offer, by-token, by-commit, Meaning}
+use Rattle.protocol.proofs.Invariant.{Ghost, TaskLinks, PairLinks, PairBy, PairAt, Links, Covered, by-ready, by-offer, by-token, by-commit, Meaning}
 use Rattle.protocol.proofs.Reading.{undecided-of}
 
 abbrev pub decidedGhost : Plan → Ghost → ℕ → ℕ → ℕ → Bool → Ghost
@@ -72,7 +72,8 @@ module _ (P : Plan) (s : Line) (h : Ghost) (j : Links P s h) (g v u : ℕ) (k : 
       up-here = elim (eq-case t u) [ same q f ↦ rw f (simp (j .pair u g .up-is, et)) | diff q f ↦ rw f (simp (j .pair t g .up-is, et)) ]
 
       here : (c : Bool) → below P g v u t ≡ c
-          → PairLinks P t g (s .waiting t) (cond (eqb t u) (s .up u g ++ result k g ∷ []) (s .up t g)) (s .down g t) (returned v u k) (cond c (decided g v u k) (h .phase t)) (h .passedTo t)
+          → PairLinks P t g (s .waiting t) (cond (eqb t u) (s .up u g ++ result k g ∷ []) (s .up t g)) (s .down g t) (returned v u k)
+          (cond c (decided g v u k) (h .phase t)) (h .passedTo t)
           (cond (eqb t u) (h .readyLast u g) (h .readyBefore t g)) (cond (eqb t u) false (h .readyLast t g))
       here true f = let q = j .pair t g in record {
         up-is = up-here;
@@ -90,7 +91,7 @@ module _ (P : Plan) (s : Line) (h : Ghost) (j : Links P s h) (g v u : ℕ) (k : 
       }
 
       other : (c : Bool) → below P g v u t ≡ c → eqb x g ≡ false
-          → PairLinks P t x (s .waiting t) (s .up t x) (s .down x t) (h .token x) (cond c (decided g v u k) (h .phase t)) (h .passedTo t) (h .readyBefore t x) (h .readyLast t x)
+          → PairBy P s h t x (h .token x) (cond c (decided g v u k) (h .phase t)) (h .passedTo t)
       other true f e = let q = j .pair t x in record {
         up-is = q .up-is;
         down-is = q .down-is;

@@ -20,7 +20,8 @@ module _ (P : Plan) (s : Line) (h : Ghost) (j : Links P s h) (t g : ℕ) (k : Bo
   pub result-behind : (resultBy t (h .token g) ≡ some k) × (rest ≡ readyIf (h .readyLast t g))
   result-behind = go k (up-front g (resultBy t (h .token g)) (h .readyBefore t g) (h .readyLast t g) (result k g) rest (sym (j .pair t g .up-is) ∙ em))
     where
-      go : (k : Bool) → UpFront g (resultBy t (h .token g)) (h .readyLast t g) (result k g) rest → (resultBy t (h .token g) ≡ some k) × (rest ≡ readyIf (h .readyLast t g))
+      go : (k : Bool) → UpFront g (resultBy t (h .token g)) (h .readyLast t g) (result k g) rest
+          → (resultBy t (h .token g) ≡ some k) × (rest ≡ readyIf (h .readyLast t g))
       go true (a-ready m e) = clash (cc)
       go false (a-ready m e) = clash (cc)
       go c (a-result d m r e) = (r ∙ rw (result-same c d g g m .0), e)
@@ -36,7 +37,8 @@ module _ (P : Plan) (s : Line) (h : Ghost) (j : Links P s h) (t g : ℕ) (k : Bo
       go (inHand v b) e r = clash (cc)
       go (returned v u c) e r = (v, j .gate g .deal-is ∙ rw e)
 
-module _ (P : Plan) (s : Line) (h : Ghost) (j : Links P s h) (t g v : ℕ) (k : Bool) (rest : List Message) (em : s .up t g ≡ result k g ∷ rest) (ev : s .deal g ≡ Dealing v) where
+module _ (P : Plan) (s : Line) (h : Ghost) (j : Links P s h) (t g v : ℕ) (k : Bool) (rest : List Message)
+    (em : s .up t g ≡ result k g ∷ rest) (ev : s .deal g ≡ Dealing v) where
   pub token-returned : h .token g ≡ returned v t k
   token-returned = returned-of t v k (h .token g) (result-behind P s h j t g k rest em .0) (sym (j .gate g .deal-is) ∙ ev)
 
@@ -51,7 +53,8 @@ module _ (P : Plan) (s : Line) (h : Ghost) (j : Links P s h) (t g v : ℕ) (k : 
   }
     where
       here : (y : ℕ) → EqCase y t
-          → PairLinks P y g (s .waiting y) (cond (eqb y t) rest (s .up y g)) (s .down g y) home (h .phase y) (h .passedTo y) (h .readyBefore y g) (h .readyLast y g)
+          → PairLinks P y g (s .waiting y) (cond (eqb y t) rest (s .up y g)) (s .down g y) home (h .phase y) (h .passedTo y)
+          (h .readyBefore y g) (h .readyLast y g)
       here y c = let q = j .pair y g in record {
         up-is = elim c [ same p e ↦ rw (e, p) (result-behind P s h j t g k rest em .1) | diff p e ↦ rw e (q .up-is ∙ simp (token-returned, e)) ];
         down-is = rw token-returned at (q .down-is);

@@ -86,8 +86,10 @@ module _ (P : Plan) (s : Line) (h : Ghost) (j : Links P s h) (m : Meaning P s h)
       replay′ t n false i = m .replayed-is t
 
       -- the lower tasks of the vector have a COMMIT coming; the token covered no others
-      covered′ : (t x : ℕ) → t ≢ u → eqb t u ≡ false → (c : Bool) → below P g v u t ≡ c → EqCase x g → Covered P t x (s .offers x t) (h .readyLast t x) (h .token x) (h .phase t)
-          → Covered P t x (s .offers x t) (cond (eqb x g && false) false (h .readyLast t x)) (changed (h .token) g (returned v u true) x) (cond c (decided g v u true) (h .phase t))
+      covered′ : (t x : ℕ) → t ≢ u → eqb t u ≡ false → (c : Bool) → below P g v u t ≡ c → EqCase x g
+          → Covered P t x (s .offers x t) (h .readyLast t x) (h .token x) (h .phase t)
+          → Covered P t x (s .offers x t) (cond (eqb x g && false) false (h .readyLast t x)) (changed (h .token) g (returned v u true) x)
+          (cond c (decided g v u true) (h .phase t))
       covered′ t x n e true f c k = by-commit refl
       covered′ t x n e false f c (by-ready a) = by-ready (simp and-no a)
       covered′ t x n e false f (same p q) (by-offer a b) = by-offer a (simp (q, e))

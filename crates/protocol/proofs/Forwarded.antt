@@ -13,7 +13,7 @@ use Rattle.protocol.specs.Steps.{forwarded}
 use Rattle.protocol.proofs.Cases.{EqCase, same, diff, eq-case, eqb-same, eqb-diff, and-no, clash}
 use Rattle.protocol.proofs.Tokens.{passed, inHand}
 use Rattle.protocol.proofs.Phases.{idle, undecided, lowerMessages}
-use Rattle.protocol.proofs.Invariant.{Ghost, PairLinks, PairAt, Links, Covered, by-ready, by-offer, by-token, by-commit, Meaning}
+use Rattle.protocol.proofs.Invariant.{Ghost, PairBy, PairAt, Links, Covered, by-ready, by-offer, by-token, by-commit, Meaning}
 use Rattle.protocol.proofs.Reading.{higher-idle}
 use Rattle.protocol.proofs.TokenMoves.{covered-moved}
 
@@ -58,7 +58,7 @@ module _ (P : Plan) (s : Line) (h : Ghost) (j : Links P s h) (g v b c : ℕ) (et
       q = j .pair t g
 
       here : EqCase t b
-          → PairLinks P t g (s .waiting t) (s .up t g) (s .down g t) (passed v b c) (changed (h .phase) b (undecided g v) t) (changed (h .passedTo) b (some c) t) (h .readyBefore t g) (h .readyLast t g)
+          → PairBy P s h t g (passed v b c) (changed (h .phase) b (undecided g v) t) (changed (h .passedTo) b (some c) t)
       here (same p e) = rw e (record {
         up-is = rw et at (q .up-is);
         down-is = rw et at (q .down-is);
@@ -75,7 +75,7 @@ module _ (P : Plan) (s : Line) (h : Ghost) (j : Links P s h) (g v b c : ℕ) (et
       })
 
       other : eqb x g ≡ false → EqCase t b
-          → PairLinks P t x (s .waiting t) (s .up t x) (s .down x t) (h .token x) (changed (h .phase) b (undecided g v) t) (changed (h .passedTo) b (some c) t) (h .readyBefore t x) (h .readyLast t x)
+          → PairBy P s h t x (h .token x) (changed (h .phase) b (undecided g v) t) (changed (h .passedTo) b (some c) t)
       other f (diff p e) = rw e (j .pair t x)
       other f (same p e) = let r = j .pair t x in let z : h .phase t ≡ idle = cc in rw e (record {
         up-is = r .up-is;

@@ -26,7 +26,8 @@ pub record Step (P : Plan) (s s′ : Line) (h : Ghost) (b : ℕ) : Type 0 where
   pub waiting-is : s′ .waiting ≡ s .waiting
   pub offers-is : s′ .offers ≡ s .offers
 
-module _ (P : Plan) (W : PlanRight P) (s : Line) (h : Ghost) (j : Links P s h) (m : Meaning P s h) (g v b : ℕ) (et : h .token g ≡ inHand v b) (eb : h .phase b ≡ idle)
+module _ (P : Plan) (W : PlanRight P) (s : Line) (h : Ghost) (j : Links P s h) (m : Meaning P s h) (g v b : ℕ)
+    (et : h .token g ≡ inHand v b) (eb : h .phase b ≡ idle)
     (only : (x w t : ℕ) → x ≢ g → h .token x ≢ inHand w t) where
   not-in-hand : (new : Token) → ((w t : ℕ) → new ≢ inHand w t) → (x w t : ℕ) → changed (h .token) g new x ≢ inHand w t
   not-in-hand new n x w t = elim (eq-case x g) [ same p e ↦ rw e (n w t) | diff p e ↦ rw e (only x w t p) ]

@@ -54,9 +54,13 @@ module _ (P : Plan) where
     pub undecided-is : undecidedFor g phase ≡ undecidedBy P g t token
     pub passed-is : passedFor g phase passedTo ≡ passedBy t token
 
+  -- the same with another token, phase and passedTo than the ghost state has; and with its own
+  abbrev pub PairBy : Line → Ghost → ℕ → ℕ → Token → Phase → Option ℕ → Type 0
+  PairBy s h t g token phase passedTo =
+      PairLinks t g (s .waiting t) (s .up t g) (s .down g t) token phase passedTo (h .readyBefore t g) (h .readyLast t g)
+
   abbrev pub PairAt : Line → Ghost → ℕ → ℕ → Type 0
-  PairAt s h t g =
-      PairLinks t g (s .waiting t) (s .up t g) (s .down g t) (h .token g) (h .phase t) (h .passedTo t) (h .readyBefore t g) (h .readyLast t g)
+  PairAt s h t g = PairBy s h t g (h .token g) (h .phase t) (h .passedTo t)
 
   -- LINKS: what modes, lists and channels hold is a function of the ghost state
   pub record Links (s : Line) (h : Ghost) : Type 0 where

@@ -16,6 +16,7 @@ pub mod Ended
 pub mod Dealt
 pub mod Handled
 pub mod ListHandled
+pub mod Fronts
 pub mod AtTask
 pub mod AtGate
 pub mod Start

@@ -32,7 +32,8 @@ with-ready g (some false) true false = refl
 with-ready g (some false) false true = refl
 with-ready g (some false) false false = refl
 
-pub announce-links : (P : Plan) (s : Line) (h : Ghost) (t : ℕ) (ready : ℕ → Bool) → Links P s h → Links P (announced s t ready) (announcedGhost h t ready)
+pub announce-links : (P : Plan) (s : Line) (h : Ghost) (t : ℕ) (ready : ℕ → Bool) → Links P s h
+    → Links P (announced s t ready) (announcedGhost h t ready)
 announce-links P s h t ready j = record {
   gate = j .gate;
   task = j .task;
@@ -43,7 +44,8 @@ announce-links P s h t ready j = record {
 }
   where
     go : (y g : ℕ) (c : Bool)
-        → PairLinks P y g (s .waiting y) (cond c (withReady (s .up y g)) (s .up y g)) (s .down g y) (h .token g) (h .phase y) (h .passedTo y) (h .readyBefore y g) (cond c true (h .readyLast y g))
+        → PairLinks P y g (s .waiting y) (cond c (withReady (s .up y g)) (s .up y g)) (s .down g y) (h .token g) (h .phase y)
+        (h .passedTo y) (h .readyBefore y g) (cond c true (h .readyLast y g))
     go y g false = j .pair y g
     go y g true = let q = j .pair y g in record {
       up-is = rw (q .up-is) (with-ready g (resultBy y (h .token g)) (h .readyBefore y g) (h .readyLast y g));

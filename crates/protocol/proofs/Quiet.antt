@@ -42,7 +42,8 @@ module _ (P : Plan) (W : PlanRight P) (s : Line) (i : Invariant P s) (q : Quiet 
   no-queued g w b e f = clash (let z : [] ≡ w ∷ [] = simp (i .none-waits b f, e, eqb-same) at (i .links .pair b g .waiting-is) in cc)
 
   -- who is held with no decision is below a request that waits, at a task that is held too
-  none-undecided : (g : ℕ) (x : Token) → h .token g ≡ x → (t v : ℕ) → ((b : ℕ) → t < b → b < P .tasks → h .phase b ≡ idle) → undecidedBy P g t x ≡ some v → ⊥
+  none-undecided : (g : ℕ) (x : Token) → h .token g ≡ x → (t v : ℕ) → ((b : ℕ) → t < b → b < P .tasks → h .phase b ≡ idle)
+      → undecidedBy P g t x ≡ some v → ⊥
   none-undecided g home e t v f u = clash (cc)
   none-undecided g (sent w b) e t v f u = clash (cc)
   none-undecided g (passed w a b) e t v f u = no-passed g w a b e

@@ -38,7 +38,8 @@ module _ (P : Plan) (s : Line) (h : Ghost) (j : Links P s h) (t g : ℕ) (rest :
     ];
   }
     where
-      behind : UpFront g (resultBy t (h .token g)) (h .readyLast t g) Ready rest → rest ≡ upMessages g (resultBy t (h .token g)) false (lastBehind (resultBy t (h .token g)) (h .readyLast t g))
+      behind : UpFront g (resultBy t (h .token g)) (h .readyLast t g) Ready rest
+          → rest ≡ upMessages g (resultBy t (h .token g)) false (lastBehind (resultBy t (h .token g)) (h .readyLast t g))
       behind (a-ready m e) = e
       behind (a-result true m r e) = clash (cc)
       behind (a-result false m r e) = clash (cc)
