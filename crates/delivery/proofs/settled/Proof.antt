@@ -1,6 +1,10 @@
 -- `settled` meets its contract: each return has passed the tests before it, so that the entries find room.
+use mathlib.Core.Bool.{true, false}
+use mathlib.Core.Path.{_≡_}
+use lib.Dec.{ltb}
 use borrow.Author.Needs.{needs}
 use borrow.Author.Tests.{lt-ltb, le-ltb}
+use Rattle.delivery.specs.Delivery.{freeRoom}
 use Rattle.delivery.proofs.settled.Statement.{statement}
 use Rattle.delivery.proofs.settled.Tie as tie
 
@@ -17,7 +21,10 @@ cast-if2 : tie.Need-cast-if2
 cast-if2 c = search needs
 
 returns-2 : tie.Need-returns-2
-returns-2 c = (rw (c .before .before .if1 .left, lt-ltb _ _ (c .if2 .taken)), rw (c .before .before .if1 .left, lt-ltb _ _ (c .if2 .taken)))
+returns-2 c =
+    let a = c .before .before .before .before .before .before .args in
+    let full : ltb (freeRoom (a .s) (a .log .now)) (a .w .fired) ≡ true = lt-ltb _ _ (c .if2 .taken) in
+    (rw (c .before .before .if1 .left, full), rw (c .before .before .if1 .left, full))
 
 mul-task : tie.Need-mul-task
 mul-task c = search needs
@@ -38,7 +45,10 @@ same-length : tie.Need-same-length
 same-length c = search needs
 
 returns-3 : tie.Need-returns-3
-returns-3 c = (rw (c .before .before .before .before .before .before .before .before .before .if1 .left, le-ltb _ _ (c .before .before .before .before .before .before .before .if2 .left)), rw (c .before .before .before .before .before .before .before .before .before .if1 .left, le-ltb _ _ (c .before .before .before .before .before .before .before .if2 .left)) (c .before .before .write .ensures))
+returns-3 c =
+    let a = c .before .before .before .before .before .before .before .before .before .before .before .before .before .args in
+    let room : ltb (freeRoom (a .s) (a .log .now)) (a .w .fired) ≡ false = le-ltb _ _ (c .before .before .before .before .before .before .before .if2 .left) in
+    (rw (c .before .before .before .before .before .before .before .before .before .if1 .left, room), rw (c .before .before .before .before .before .before .before .before .before .if1 .left, room) (c .before .before .write .ensures))
 
 pub settled-spec : {M : Type 1} → statement M
 settled-spec =
