@@ -10,8 +10,8 @@ use state::State;
 use table::Table;
 use tasks::Work;
 ghost use mathlib.Core.Path.{_≡_};
-ghost use Prim.Native.Nat.{_+_, _-_, _*_, _/_, _≤_, _<_};
-ghost use lib.ListN.{getD, length};
+ghost use Prim.Native.Nat.{_+_, _/_, _≤_, _<_};
+ghost use lib.ListN.{getD, set, length};
 ghost use Rattle.channels.specs.Channels.{noRequest};
 ghost use Rattle.delivery.specs.Delivery.{entered, written, settledAtTask, wayOf, toGate, toTask, along, result, soundFor, delivered};
 ghost use Rattle.state.specs.States.{popOf};
@@ -51,24 +51,37 @@ pub fn way_between(from: Endpoint, to: Endpoint) -> Way
     }
 }
 
-// One entry, two bytes.
-fn enter(log: &mut [u8], at: usize, request: Request)
-    requires { ⌜ at * 2 + 1 < length (now log) ⌝ }
-    ensures { λ _. ⌜ now (log .exit) ≡ entered at request (now (log .entry)) ⌝ }
+// A byte of the log; past its end nothing is stored.
+fn store(log: &mut [u8], i: usize, byte: u8)
+    ensures { λ _. ⌜ now (log .exit) ≡ set (now (log .entry)) i byte ⌝ }
 {
-    let gate = request.gate;
-    log[at * 2] = gate.0;
-    log[at * 2 + 1] = request.vector;
+    if i < log.len() {
+        log[i] = byte;
+    }
 }
 
-// The first of the entries, behind the log's last.
-fn write(log: &mut [u8], at: usize, entries: [Request; 16], count: u8)
-    requires { ⌜ (at + count) * 2 ≤ length (now log) ⌝ }
+// Entry k of those behind the first `at`, two bytes.
+fn enter(log: &mut [u8], at: usize, k: u8, request: Request)
+    ensures { λ _. ⌜ now (log .exit) ≡ entered (at + k) request (now (log .entry)) ⌝ }
+{
+    let capacity = log.len() / 2;
+    if at <= capacity {
+        if k as usize <= capacity - at {
+            let place = (at + k as usize) * 2;
+            let gate = request.gate;
+            store(log, place, gate.0);
+            store(log, place + 1, request.vector);
+        }
+    }
+}
+
+// The first of the entries, behind the log's last; past the log's end nothing is stored.
+pub fn write(log: &mut [u8], at: usize, entries: [Request; 16], count: u8)
     ensures { λ _. ⌜ now (log .exit) ≡ written at entries count (now (log .entry)) ⌝ }
 {
     let mut k: u8 = 0;
     while k < count {
-        enter(log, at + k as usize, entry(entries, k));
+        enter(log, at, k, entry(entries, k));
         k += 1;
     }
 }

@@ -2,6 +2,8 @@
 // typed; a byte that finds no room is left out.
 ghost use mathlib.Core.List.{[], _∷_, _++_};
 ghost use mathlib.Core.Path.{_≡_};
+ghost use Prim.Native.Nat.{_≤_, min};
+ghost use lib.ListN.{length, take};
 ghost use Rattle.text.specs.Text.{typed, decimal};
 
 pub fn put_byte(text: &mut [u8], at: usize, byte: u8) -> usize
@@ -48,4 +50,12 @@ pub fn put_field<'a>(text: &'a mut [u8], at: usize, word: &'a [u8], n: usize) ->
 {
     let end = put_word(text, at, word);
     put_decimal(text, end, n)
+}
+
+// Where a text ends that was typed up to a place, so that it can be lent up to there.
+pub fn within(text: &[u8], end: usize) -> usize
+    ensures { λ r. ⌜ r ≡ min end (length (now (text .entry))) ⌝ }
+    ensures { λ r. ⌜ (r ≤ length (now (text .entry))) × (r ≡ length (take r (now (text .entry)))) ⌝ }
+{
+    if end < text.len() { end } else { text.len() }
 }

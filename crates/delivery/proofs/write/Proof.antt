@@ -19,12 +19,6 @@ abbrev μ-loop : tie.MeasureT-loop
 loop-holds : tie.Need-loop-holds Inv-loop μ-loop
 loop-holds c = (search needs, search needs, refl)
 
-cast-enter : tie.Need-cast-enter Inv-loop μ-loop
-cast-enter c = search needs
-
-add-enter : tie.Need-add-enter Inv-loop μ-loop
-add-enter c = search needs
-
 entry-requires : tie.Need-entry-requires Inv-loop μ-loop
 entry-requires c κs = search needs
 
@@ -66,8 +60,6 @@ write-spec =
     Inv-loop
     μ-loop
     loop-holds
-    cast-enter
-    add-enter
     entry-requires
     enter-requires
     add-k

@@ -1,0 +1,4 @@
+pub mod Within
+pub mod Stored
+pub mod Turns
+pub mod Same

@@ -1,0 +1,56 @@
+-- In a row of deliveries number 11 need be asked only once, before the first.
+use Prim.Native.Nat.{ℕ, suc, zero}
+use mathlib.Core.Bool.{Bool, true, false, cond}
+use mathlib.Core.List.{List}
+use mathlib.Core.Path.{_≡_, refl, ap, _∙_}
+use lib.ListN.{length}
+use Rattle.laws.specs.Turns.{upTo}
+use Rattle.laws.proofs.Turning.{turns-keep}
+use Rattle.answers.specs.Answers.{isDone}
+use Rattle.table.specs.declared.Table.{Table}
+use Rattle.schedule.specs.Schedules.{deliveryOf}
+use Rattle.schedule.specs.declared.Delivery.{Delivery}
+use Rattle.state.specs.declared.State.{State}
+use Rattle.delivery.specs.Delivery.{sound, delivered}
+use Rattle.kept.proofs.States.{SizedState}
+use Rattle.kept.proofs.Kept.{outcome-sound, outcome-sized}
+use Rattle.run.specs.Run.{Course, begun, gone, turnAt, course, deliveredBy, steppedBy}
+
+-- turns that agree wherever P holds, where the first of them keep P
+turns-same : {A : Type 0} (P : A → Type 0) (f g : ℕ → A → A) (n : ℕ) (a : A) → ((k : ℕ) (b : A) → P b → P (f k b))
+    → ((k : ℕ) (b : A) → P b → f k b ≡ g k b) → P a → upTo f n a ≡ upTo g n a
+turns-same P f g zero a keep same p = refl
+turns-same P f g (suc n) a keep same p =
+    same n (upTo f n a) (turns-keep P f n a (λ k b l. keep k b) p) ∙ ap (g n) (turns-same P f g n a keep same p)
+
+module _ (T : Table) (room : length (T .vectors) ≡ 16) where
+  -- what the deliveries keep
+  record Good (c : Course) : Type 0 where
+    is-sound : sound T (c .state) (c .log) ≡ true
+    is-sized : SizedState (c .state)
+
+  either : (t : Bool) (x y : Course) → Good x → Good y → Good (cond t x y)
+  either true x y p q = p
+  either false x y p q = q
+
+  turn-good : (file : List ℕ) (i : ℕ) (c : Course) → Good c → Good (turnAt (deliveredBy T) file i c)
+  turn-good file i c h =
+      let d : Delivery = deliveryOf file i in
+      either (isDone (c .answer)) (gone c (deliveredBy T (c .state) (c .log) d)) c
+      (record {
+        is-sound = outcome-sound T (c .state) (c .log) (d .from) (d .to) room (h .is-sized) (h .is-sound);
+        is-sized = outcome-sized T (c .state) (c .log) (d .from) (d .to) room (h .is-sized);
+      }) h
+
+  turn-same : (file : List ℕ) (i : ℕ) (c : Course) → Good c
+      → turnAt (deliveredBy T) file i c ≡ turnAt (steppedBy (T .moves) (T .vectors) (T .masks) (T .tasks) (T .gates)) file i c
+  unfolding delivered
+  turn-same file i c h = rw (h .is-sound)
+
+  pub same-course : (s : State) (log : List ℕ) → SizedState s → sound T s log ≡ true → (file : List ℕ) (count : ℕ)
+      → course (deliveredBy T) file count (begun s log)
+      ≡ course (steppedBy (T .moves) (T .vectors) (T .masks) (T .tasks) (T .gates)) file count (begun s log)
+  unfolding course
+  same-course s log z h file count =
+      turns-same Good (turnAt (deliveredBy T) file) (turnAt (steppedBy (T .moves) (T .vectors) (T .masks) (T .tasks) (T .gates)) file)
+      count (begun s log) (turn-good file) (turn-same file) (record { is-sound = h; is-sized = z })
