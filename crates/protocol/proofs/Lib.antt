@@ -22,8 +22,6 @@ pub mod AtGate
 pub mod Start
 pub mod Room
 pub mod Quiet
-pub mod Law
 pub mod Agree
 pub mod Behind
 pub mod Counted
-pub mod Undelivered

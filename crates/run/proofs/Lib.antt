@@ -1,4 +1,4 @@
 pub mod Within
-pub mod Stored
+pub mod Steps
 pub mod Turns
 pub mod Same

@@ -1,27 +1,19 @@
 -- In a row of deliveries number 11 need be asked only once, before the first.
-use Prim.Native.Nat.{ℕ, suc, zero}
+use Prim.Native.Nat.{ℕ}
 use mathlib.Core.Bool.{Bool, true, false, cond}
 use mathlib.Core.List.{List}
-use mathlib.Core.Path.{_≡_, refl, ap, _∙_}
+use mathlib.Core.Path.{_≡_}
 use lib.ListN.{length}
-use Rattle.laws.specs.Turns.{upTo}
-use Rattle.laws.proofs.Turning.{turns-keep}
 use Rattle.answers.specs.Answers.{isDone}
-use Rattle.table.specs.declared.Table.{Table}
+use Rattle.delivery.specs.Delivery.{sound, delivered}
+use Rattle.kept.proofs.Kept.{outcome-sound, outcome-sized}
+use Rattle.kept.proofs.States.{SizedState}
+use Rattle.laws.proofs.Turning.{turns-same}
+use Rattle.run.specs.Run.{Course, begun, gone, turnAt, course, deliveredBy, steppedBy}
 use Rattle.schedule.specs.Schedules.{deliveryOf}
 use Rattle.schedule.specs.declared.Delivery.{Delivery}
 use Rattle.state.specs.declared.State.{State}
-use Rattle.delivery.specs.Delivery.{sound, delivered}
-use Rattle.kept.proofs.States.{SizedState}
-use Rattle.kept.proofs.Kept.{outcome-sound, outcome-sized}
-use Rattle.run.specs.Run.{Course, begun, gone, turnAt, course, deliveredBy, steppedBy}
-
--- turns that agree wherever P holds, where the first of them keep P
-turns-same : {A : Type 0} (P : A → Type 0) (f g : ℕ → A → A) (n : ℕ) (a : A) → ((k : ℕ) (b : A) → P b → P (f k b))
-    → ((k : ℕ) (b : A) → P b → f k b ≡ g k b) → P a → upTo f n a ≡ upTo g n a
-turns-same P f g zero a keep same p = refl
-turns-same P f g (suc n) a keep same p =
-    same n (upTo f n a) (turns-keep P f n a (λ k b l. keep k b) p) ∙ ap (g n) (turns-same P f g n a keep same p)
+use Rattle.table.specs.declared.Table.{Table}
 
 module _ (T : Table) (room : length (T .vectors) ≡ 16) where
   -- what the deliveries keep

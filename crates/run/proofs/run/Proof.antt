@@ -3,19 +3,20 @@ use Prim.Native.Nat.{_-_, _≤_}
 use mathlib.Core.Path.{_≡_, refl, sym, ap, _∙_}
 use native.Mathlib.Omega.{arith}
 use lib.ListN.{length}
-use Rattle.answers.specs.declared.Answer.the-variants.{Done}
+use Rattle.answers.specs.declared.Answer.the-variants.{Done, NoChannel, ChannelEmpty, LogFull, Excluded}
+use Rattle.delivery.specs.declared.Way.the-variants.{Along}
 use Rattle.kept.proofs.Log.{written-length}
-use Rattle.run.specs.Run.{Course, begun, course, ranOf}
-use Rattle.run.proofs.Within.{places-within}
-use Rattle.run.proofs.Stored.{done-room}
+use Rattle.run.specs.Run.{Course, begun, course, ranOf, steppedBy}
+use Rattle.run.proofs.Within.{link-within}
+use Rattle.run.proofs.Steps.{nowhere, to-gate, from-gate, to-task}
 use Rattle.run.proofs.Turns.{soFar, turns, turn-done, ends-refused}
 use borrow.Author.Needs.{needs}
-use borrow.Author.Tests.{not-true, not-false}
+use borrow.Author.Tests.{eq-eqb, ne-eqb, ltb-false}
 use Rattle.run.proofs.run.Statement.{statement}
 use Rattle.run.proofs.run.Tie as tie
 
 abbrev Inv-loop : tie.InvT-loop
-Inv-loop moves vectors masks tasks gates log₀ file count s₀ i₀ log s i = (i ≤ count) × (length log ≡ length log₀) × (turns moves vectors masks tasks gates file (begun s₀ log₀) i ≡ soFar s log Done i)
+Inv-loop moves vectors masks tasks gates log₀ file count s₀ i₀ log s i = (i ≤ count) × (length log ≡ length log₀) × (turns (steppedBy moves vectors masks tasks gates) file (begun s₀ log₀) i ≡ soFar s log Done i)
 
 abbrev μ-loop : tie.MeasureT-loop
 μ-loop moves vectors masks tasks gates log₀ file count s₀ i₀ log s i = count - i
@@ -26,103 +27,376 @@ loop-holds c = (search needs, search needs, refl)
 way-at-requires : tie.Need-way-at-requires Inv-loop μ-loop
 way-at-requires c κs = search needs
 
-places-of-requires : tie.Need-places-of-requires Inv-loop μ-loop
-places-of-requires c κs = search needs
+enum-told : tie.Need-enum-told Inv-loop μ-loop
+enum-told c = search needs
 
-mul-p : tie.Need-mul-p Inv-loop μ-loop
-mul-p c = omega (arith, places-within _ _ _ _ _ (c .before .way-at .ensures) (c .places-of .ensures))
-
-element-copy-out-p : tie.Need-element-copy-out-p Inv-loop μ-loop
-element-copy-out-p c = omega (arith, places-within _ _ _ _ _ (c .before .way-at .ensures) (c .places-of .ensures))
-
-mul-q : tie.Need-mul-q Inv-loop μ-loop
-mul-q c = omega (arith, places-within _ _ _ _ _ (c .before .before .way-at .ensures) (c .before .places-of .ensures))
-
-element-copy-out-q : tie.Need-element-copy-out-q Inv-loop μ-loop
-element-copy-out-q c = omega (arith, places-within _ _ _ _ _ (c .before .before .way-at .ensures) (c .before .places-of .ensures))
-
-mul-k : tie.Need-mul-k Inv-loop μ-loop
-mul-k c = omega (arith, places-within _ _ _ _ _ (c .before .before .before .way-at .ensures) (c .before .before .places-of .ensures))
-
-element-copy-out-k : tie.Need-element-copy-out-k Inv-loop μ-loop
-element-copy-out-k c = omega (arith, places-within _ _ _ _ _ (c .before .before .before .way-at .ensures) (c .before .before .places-of .ensures))
-
-free-room-requires : tie.Need-free-room-requires Inv-loop μ-loop
-free-room-requires c κs = search needs
-
-met-requires : tie.Need-met-requires Inv-loop μ-loop
-met-requires c κs = search needs
-
-is-done-requires : tie.Need-is-done-requires Inv-loop μ-loop
-is-done-requires c κs = search needs
+stopped-requires : tie.Need-stopped-requires Inv-loop μ-loop
+stopped-requires c κs = search needs
 
 same-length : tie.Need-same-length Inv-loop μ-loop
 same-length c = search needs
 
 returns : tie.Need-returns Inv-loop μ-loop
 returns c =
-    let a = c .before .before .before .before .before .before .before .before .before .before .before .before .before .before .before .before .args in
-    let l = c .before .before .before .before .before .before .before .before .before .before .loop in
-    let d = sym (c .before .is-done .ensures) ∙ not-true (c .before .is-done .result) (c .if1 .taken) in
-    let e = ends-refused (a .moves .now) (a .vectors .now) (a .masks .now) (a .tasks) (a .gates) (a .file .now) (begun (a .t6) (a .log .now)) (l .s) (l .log) (l .i)
-    (c .before .before .before .before .before .before .before .before .way-at .result) (c .before .before .before .before .before .before .before .places-of .result) (c .before .before .met .result) (c .before .before .before .before .before .before .before .before .way-at .ensures) (c .before .before .before .before .before .before .before .places-of .ensures)
-    (c .before .before .met .ensures ∙ rw (c .before .before .before .free-room .ensures)) (l .inv .2)
-    d (a .count) (c .before .before .before .before .before .before .before .before .before .loop-test .taken) in
-    (ap ranOf (sym e), ap (λ (x : Course). x .log) (sym e))
+    let a = c .before .before .before .before .before .before .before .before .before .before .before .args in
+    let l = c .before .before .before .before .before .loop in
+    let e = nowhere (a .moves .now) (a .vectors .now) (a .masks .now) (a .tasks) (a .gates) (l .s) (l .log) _ (c .before .before .before .way-at .result) (c .before .before .before .way-at .ensures) (c .before .enum-told .given .1) in
+    let h = ends-refused (steppedBy (a .moves .now) (a .vectors .now) (a .masks .now) (a .tasks) (a .gates)) (a .file .now) (begun (a .t6) (a .log .now)) (l .s) (l .log) (l .i) (l .inv .2) NoChannel refl e (a .count) (c .before .before .before .before .loop-test .taken) in
+    (c .stopped .ensures ∙ ap ranOf (sym h), ap (λ (x : Course). x .log) (sym h))
+
+enum-known-link : tie.Need-enum-known-link Inv-loop μ-loop
+enum-known-link c = search needs
+
+enum-known-link-2 : tie.Need-enum-known-link-2 Inv-loop μ-loop
+enum-known-link-2 c = search needs
+
+cast-x : tie.Need-cast-x Inv-loop μ-loop
+cast-x c = search needs
+
+cast-z : tie.Need-cast-z Inv-loop μ-loop
+cast-z c = search needs
 
 mul-sender : tie.Need-mul-sender Inv-loop μ-loop
-mul-sender c = omega (arith, places-within _ _ _ _ _ (c .before .before .before .before .before .before .before .before .before .before .before .before .before .way-at .ensures) (c .before .before .before .before .before .before .before .before .before .before .before .before .places-of .ensures))
+mul-sender c = omega (arith, link-within _ _ _ _ _ (c .before .before .before .before .before .before .before .before .way-at .ensures) (c .before .before .before .before .before .before .link .given .1 ∙ ap Along (c .before .before .before .link2 .given .1)))
 
-element-set-from-sender : tie.Need-element-set-from-sender Inv-loop μ-loop
-element-set-from-sender c = omega (arith, places-within _ _ _ _ _ (c .before .before .before .before .before .before .before .before .before .before .before .before .before .way-at .ensures) (c .before .before .before .before .before .before .before .before .before .before .before .before .places-of .ensures))
+element-copy-out-sender : tie.Need-element-copy-out-sender Inv-loop μ-loop
+element-copy-out-sender c = omega (arith, link-within _ _ _ _ _ (c .before .before .before .before .before .before .before .before .way-at .ensures) (c .before .before .before .before .before .before .link .given .1 ∙ ap Along (c .before .before .before .link2 .given .1)))
 
 mul-receiver : tie.Need-mul-receiver Inv-loop μ-loop
-mul-receiver c = omega (arith, places-within _ _ _ _ _ (c .before .before .before .before .before .before .before .before .before .before .before .before .before .way-at .ensures) (c .before .before .before .before .before .before .before .before .before .before .before .before .places-of .ensures))
+mul-receiver c = omega (arith, link-within _ _ _ _ _ (c .before .before .before .before .before .before .before .before .before .way-at .ensures) (c .before .before .before .before .before .before .before .link .given .1 ∙ ap Along (c .before .before .before .before .link2 .given .1)))
 
-element-set-from-receiver : tie.Need-element-set-from-receiver Inv-loop μ-loop
-element-set-from-receiver c = omega (arith, places-within _ _ _ _ _ (c .before .before .before .before .before .before .before .before .before .before .before .before .before .way-at .ensures) (c .before .before .before .before .before .before .before .before .before .before .before .before .places-of .ensures))
+element-copy-out-receiver : tie.Need-element-copy-out-receiver Inv-loop μ-loop
+element-copy-out-receiver c = omega (arith, link-within _ _ _ _ _ (c .before .before .before .before .before .before .before .before .before .way-at .ensures) (c .before .before .before .before .before .before .before .link .given .1 ∙ ap Along (c .before .before .before .before .link2 .given .1)))
+
+mul-channel : tie.Need-mul-channel Inv-loop μ-loop
+mul-channel c = omega (arith, link-within _ _ _ _ _ (c .before .before .before .before .before .before .before .before .before .before .way-at .ensures) (c .before .before .before .before .before .before .before .before .link .given .1 ∙ ap Along (c .before .before .before .before .before .link2 .given .1)))
+
+element-copy-out-channel : tie.Need-element-copy-out-channel Inv-loop μ-loop
+element-copy-out-channel c = omega (arith, link-within _ _ _ _ _ (c .before .before .before .before .before .before .before .before .before .before .way-at .ensures) (c .before .before .before .before .before .before .before .before .link .given .1 ∙ ap Along (c .before .before .before .before .before .link2 .given .1)))
+
+stopped-requires-2 : tie.Need-stopped-requires-2 Inv-loop μ-loop
+stopped-requires-2 c κs = search needs
+
+same-length-2 : tie.Need-same-length-2 Inv-loop μ-loop
+same-length-2 c = c .before .before .before .before .before .before .before .before .before .before .before .before .before .before .before .before .loop .inv .1
+
+returns-2 : tie.Need-returns-2 Inv-loop μ-loop
+returns-2 c =
+    let a = c .before .before .before .before .before .before .before .before .before .before .before .before .before .before .before .before .before .before .before .before .before .before .args in
+    let l = c .before .before .before .before .before .before .before .before .before .before .before .before .before .before .before .before .loop in
+    let e = to-gate (a .moves .now) (a .vectors .now) (a .masks .now) (a .tasks) (a .gates) (l .s) (l .log) _ (c .before .before .before .before .before .before .before .before .before .before .before .before .before .before .way-at .result) (c .before .before .before .before .before .before .before .before .before .before .before .before .before .before .way-at .ensures) _ _ (c .before .before .before .before .before .before .before .before .before .before .before .before .link .given .1 ∙ ap Along (c .before .before .before .before .before .before .before .before .before .link2 .given .1)) in
+    let h = ends-refused (steppedBy (a .moves .now) (a .vectors .now) (a .masks .now) (a .tasks) (a .gates)) (a .file .now) (begun (a .t6) (a .log .now)) (l .s) (l .log) (l .i) (l .inv .2) ChannelEmpty refl (e ∙ rw (eq-eqb _ _ (c .before .if1 .taken))) (a .count) (c .before .before .before .before .before .before .before .before .before .before .before .before .before .before .before .loop-test .taken) in
+    (c .stopped2 .ensures ∙ ap ranOf (sym h), ap (λ (x : Course). x .log) (sym h))
+
+byte-requires : tie.Need-byte-requires Inv-loop μ-loop
+byte-requires c κs = search needs
+
+at-gate-requires : tie.Need-at-gate-requires Inv-loop μ-loop
+at-gate-requires c κs = search needs
+
+stopped-requires-3 : tie.Need-stopped-requires-3 Inv-loop μ-loop
+stopped-requires-3 c κs = search needs
+
+same-length-3 : tie.Need-same-length-3 Inv-loop μ-loop
+same-length-3 c = c .before .before .before .before .before .before .before .before .before .before .before .before .before .before .before .before .before .before .before .before .loop .inv .1
+
+returns-3 : tie.Need-returns-3 Inv-loop μ-loop
+returns-3 c =
+    let a = c .before .before .before .before .before .before .before .before .before .before .before .before .before .before .before .before .before .before .before .before .before .before .before .before .before .before .args in
+    let l = c .before .before .before .before .before .before .before .before .before .before .before .before .before .before .before .before .before .before .before .before .loop in
+    let e = to-gate (a .moves .now) (a .vectors .now) (a .masks .now) (a .tasks) (a .gates) (l .s) (l .log) _ (c .before .before .before .before .before .before .before .before .before .before .before .before .before .before .before .before .before .before .way-at .result) (c .before .before .before .before .before .before .before .before .before .before .before .before .before .before .before .before .before .before .way-at .ensures) _ _ (c .before .before .before .before .before .before .before .before .before .before .before .before .before .before .before .before .link .given .1 ∙ ap Along (c .before .before .before .before .before .before .before .before .before .before .before .before .before .link2 .given .1)) in
+    let h = ends-refused (steppedBy (a .moves .now) (a .vectors .now) (a .masks .now) (a .tasks) (a .gates)) (a .file .now) (begun (a .t6) (a .log .now)) (l .s) (l .log) (l .i) (l .inv .2) Excluded refl (e ∙ rw (ne-eqb _ _ (c .before .before .before .before .before .if1 .left), ← c .before .before .before .before .byte .ensures, ← c .before .before .before .at-gate .ensures, c .before .if2 .taken)) (a .count) (c .before .before .before .before .before .before .before .before .before .before .before .before .before .before .before .before .before .before .before .loop-test .taken) in
+    (c .stopped3 .ensures ∙ ap ranOf (sym h), ap (λ (x : Course). x .log) (sym h))
+
+popped-requires : tie.Need-popped-requires Inv-loop μ-loop
+popped-requires c κs = search needs
+
+mul-t52 : tie.Need-mul-t52 Inv-loop μ-loop
+mul-t52 c = omega (arith, link-within _ _ _ _ _ (c .before .before .before .before .before .before .before .before .before .before .before .before .before .before .before .before .before .before .before .way-at .ensures) (c .before .before .before .before .before .before .before .before .before .before .before .before .before .before .before .before .before .link .given .1 ∙ ap Along (c .before .before .before .before .before .before .before .before .before .before .before .before .before .before .link2 .given .1)))
+
+element-set-from-sender : tie.Need-element-set-from-sender Inv-loop μ-loop
+element-set-from-sender c = omega (arith, link-within _ _ _ _ _ (c .before .before .before .before .before .before .before .before .before .before .before .before .before .before .before .before .before .before .before .way-at .ensures) (c .before .before .before .before .before .before .before .before .before .before .before .before .before .before .before .before .before .link .given .1 ∙ ap Along (c .before .before .before .before .before .before .before .before .before .before .before .before .before .before .link2 .given .1)))
+
+mul-t52-2 : tie.Need-mul-t52-2 Inv-loop μ-loop
+mul-t52-2 c = omega (arith, link-within _ _ _ _ _ (c .before .before .before .before .before .before .before .before .before .before .before .before .before .before .before .before .before .before .before .way-at .ensures) (c .before .before .before .before .before .before .before .before .before .before .before .before .before .before .before .before .before .link .given .1 ∙ ap Along (c .before .before .before .before .before .before .before .before .before .before .before .before .before .before .link2 .given .1)))
+
+element-set-from-s : tie.Need-element-set-from-s Inv-loop μ-loop
+element-set-from-s c = omega (arith, link-within _ _ _ _ _ (c .before .before .before .before .before .before .before .before .before .before .before .before .before .before .before .before .before .before .before .way-at .ensures) (c .before .before .before .before .before .before .before .before .before .before .before .before .before .before .before .before .before .link .given .1 ∙ ap Along (c .before .before .before .before .before .before .before .before .before .before .before .before .before .before .link2 .given .1)))
 
 mul-gate : tie.Need-mul-gate Inv-loop μ-loop
-mul-gate c = omega (arith, places-within _ _ _ _ _ (c .before .before .before .before .before .before .before .before .before .before .before .before .before .way-at .ensures) (c .before .before .before .before .before .before .before .before .before .before .before .before .places-of .ensures))
+mul-gate c = omega (arith, link-within _ _ _ _ _ (c .before .before .before .before .before .before .before .before .before .before .before .before .before .before .before .before .before .before .before .way-at .ensures) (c .before .before .before .before .before .before .before .before .before .before .before .before .before .before .before .before .before .link .given .1 ∙ ap Along (c .before .before .before .before .before .before .before .before .before .before .before .before .before .before .link2 .given .1)))
 
 element-set-from-gate : tie.Need-element-set-from-gate Inv-loop μ-loop
-element-set-from-gate c = omega (arith, places-within _ _ _ _ _ (c .before .before .before .before .before .before .before .before .before .before .before .before .before .way-at .ensures) (c .before .before .before .before .before .before .before .before .before .before .before .before .places-of .ensures))
+element-set-from-gate c = omega (arith, link-within _ _ _ _ _ (c .before .before .before .before .before .before .before .before .before .before .before .before .before .before .before .before .before .before .before .way-at .ensures) (c .before .before .before .before .before .before .before .before .before .before .before .before .before .before .before .before .before .link .given .1 ∙ ap Along (c .before .before .before .before .before .before .before .before .before .before .before .before .before .before .link2 .given .1)))
+
+add-i : tie.Need-add-i Inv-loop μ-loop
+add-i c =
+    let l = c .before .before .before .before .before .before .before .before .before .before .before .before .before .before .before .before .before .before .before .before .loop-test .taken in
+    let f = c .before .before .before .before .before .before .before .before .before .before .before .before .before .before .before .before .before .before .before .before .before .before .before .before .before .before .before .fits .count .fits in
+    omega arith
+
+loop-less : tie.Need-loop-less Inv-loop μ-loop
+loop-less c = let t = c .before .before .before .before .before .before .before .before .before .before .before .before .before .before .before .before .before .before .before .before .loop-test .taken in omega arith
+
+loop-again : tie.Need-loop-again Inv-loop μ-loop
+loop-again c =
+    let a = c .before .before .before .before .before .before .before .before .before .before .before .before .before .before .before .before .before .before .before .before .before .before .before .before .before .before .before .args in
+    let l = c .before .before .before .before .before .before .before .before .before .before .before .before .before .before .before .before .before .before .before .before .before .loop in
+    let t = c .before .before .before .before .before .before .before .before .before .before .before .before .before .before .before .before .before .before .before .before .loop-test .taken in
+    let e = to-gate (a .moves .now) (a .vectors .now) (a .masks .now) (a .tasks) (a .gates) (l .s) (l .log) _ (c .before .before .before .before .before .before .before .before .before .before .before .before .before .before .before .before .before .before .before .way-at .result) (c .before .before .before .before .before .before .before .before .before .before .before .before .before .before .before .before .before .before .before .way-at .ensures) _ _ (c .before .before .before .before .before .before .before .before .before .before .before .before .before .before .before .before .before .link .given .1 ∙ ap Along (c .before .before .before .before .before .before .before .before .before .before .before .before .before .before .link2 .given .1)) in
+    let h = turn-done (steppedBy (a .moves .now) (a .vectors .now) (a .masks .now) (a .tasks) (a .gates)) (a .file .now) (begun (a .t6) (a .log .now)) (l .s) (l .log) (l .i) (l .inv .2) _ _ (rw (ne-eqb _ _ (c .before .before .before .before .before .before .if1 .left), ← c .before .before .before .before .before .byte .ensures, ← c .before .before .before .before .at-gate .ensures, c .before .before .if2 .left) at e) in
+    (omega arith, l .inv .1, rw (c .popped .ensures) h)
+
+enum-known-link-3 : tie.Need-enum-known-link-3 Inv-loop μ-loop
+enum-known-link-3 c = search needs
+
+cast-z-2 : tie.Need-cast-z-2 Inv-loop μ-loop
+cast-z-2 c = search needs
+
+cast-y : tie.Need-cast-y Inv-loop μ-loop
+cast-y c = search needs
+
+mul-sender-2 : tie.Need-mul-sender-2 Inv-loop μ-loop
+mul-sender-2 c = omega (arith, link-within _ _ _ _ _ (c .before .before .before .before .before .before .before .before .way-at .ensures) (c .before .before .before .before .before .before .link .given .1 ∙ ap Along (c .before .before .before .link3 .given .1)))
+
+element-copy-out-sender-2 : tie.Need-element-copy-out-sender-2 Inv-loop μ-loop
+element-copy-out-sender-2 c = omega (arith, link-within _ _ _ _ _ (c .before .before .before .before .before .before .before .before .way-at .ensures) (c .before .before .before .before .before .before .link .given .1 ∙ ap Along (c .before .before .before .link3 .given .1)))
+
+mul-receiver-2 : tie.Need-mul-receiver-2 Inv-loop μ-loop
+mul-receiver-2 c = omega (arith, link-within _ _ _ _ _ (c .before .before .before .before .before .before .before .before .before .way-at .ensures) (c .before .before .before .before .before .before .before .link .given .1 ∙ ap Along (c .before .before .before .before .link3 .given .1)))
+
+element-copy-out-receiver-2 : tie.Need-element-copy-out-receiver-2 Inv-loop μ-loop
+element-copy-out-receiver-2 c = omega (arith, link-within _ _ _ _ _ (c .before .before .before .before .before .before .before .before .before .way-at .ensures) (c .before .before .before .before .before .before .before .link .given .1 ∙ ap Along (c .before .before .before .before .link3 .given .1)))
+
+mul-channel-2 : tie.Need-mul-channel-2 Inv-loop μ-loop
+mul-channel-2 c = omega (arith, link-within _ _ _ _ _ (c .before .before .before .before .before .before .before .before .before .before .way-at .ensures) (c .before .before .before .before .before .before .before .before .link .given .1 ∙ ap Along (c .before .before .before .before .before .link3 .given .1)))
+
+element-copy-out-channel-2 : tie.Need-element-copy-out-channel-2 Inv-loop μ-loop
+element-copy-out-channel-2 c = omega (arith, link-within _ _ _ _ _ (c .before .before .before .before .before .before .before .before .before .before .way-at .ensures) (c .before .before .before .before .before .before .before .before .link .given .1 ∙ ap Along (c .before .before .before .before .before .link3 .given .1)))
+
+stopped-requires-4 : tie.Need-stopped-requires-4 Inv-loop μ-loop
+stopped-requires-4 c κs = search needs
+
+same-length-4 : tie.Need-same-length-4 Inv-loop μ-loop
+same-length-4 c = c .before .before .before .before .before .before .before .before .before .before .before .before .before .before .before .before .loop .inv .1
+
+returns-4 : tie.Need-returns-4 Inv-loop μ-loop
+returns-4 c =
+    let a = c .before .before .before .before .before .before .before .before .before .before .before .before .before .before .before .before .before .before .before .before .before .before .args in
+    let l = c .before .before .before .before .before .before .before .before .before .before .before .before .before .before .before .before .loop in
+    let e = from-gate (a .moves .now) (a .vectors .now) (a .masks .now) (a .tasks) (a .gates) (l .s) (l .log) _ (c .before .before .before .before .before .before .before .before .before .before .before .before .before .before .way-at .result) (c .before .before .before .before .before .before .before .before .before .before .before .before .before .before .way-at .ensures) _ _ (c .before .before .before .before .before .before .before .before .before .before .before .before .link .given .1 ∙ ap Along (c .before .before .before .before .before .before .before .before .before .link3 .given .1)) in
+    let h = ends-refused (steppedBy (a .moves .now) (a .vectors .now) (a .masks .now) (a .tasks) (a .gates)) (a .file .now) (begun (a .t6) (a .log .now)) (l .s) (l .log) (l .i) (l .inv .2) ChannelEmpty refl (e ∙ rw (eq-eqb _ _ (c .before .if3 .taken))) (a .count) (c .before .before .before .before .before .before .before .before .before .before .before .before .before .before .before .loop-test .taken) in
+    (c .stopped4 .ensures ∙ ap ranOf (sym h), ap (λ (x : Course). x .log) (sym h))
+
+at-task-requires : tie.Need-at-task-requires Inv-loop μ-loop
+at-task-requires c κs = search needs
+
+stopped-requires-5 : tie.Need-stopped-requires-5 Inv-loop μ-loop
+stopped-requires-5 c κs = search needs
+
+same-length-5 : tie.Need-same-length-5 Inv-loop μ-loop
+same-length-5 c = c .before .before .before .before .before .before .before .before .before .before .before .before .before .before .before .before .before .before .before .loop .inv .1
+
+returns-5 : tie.Need-returns-5 Inv-loop μ-loop
+returns-5 c =
+    let a = c .before .before .before .before .before .before .before .before .before .before .before .before .before .before .before .before .before .before .before .before .before .before .before .before .before .args in
+    let l = c .before .before .before .before .before .before .before .before .before .before .before .before .before .before .before .before .before .before .before .loop in
+    let e = from-gate (a .moves .now) (a .vectors .now) (a .masks .now) (a .tasks) (a .gates) (l .s) (l .log) _ (c .before .before .before .before .before .before .before .before .before .before .before .before .before .before .before .before .before .way-at .result) (c .before .before .before .before .before .before .before .before .before .before .before .before .before .before .before .before .before .way-at .ensures) _ _ (c .before .before .before .before .before .before .before .before .before .before .before .before .before .before .before .link .given .1 ∙ ap Along (c .before .before .before .before .before .before .before .before .before .before .before .before .link3 .given .1)) in
+    let h = ends-refused (steppedBy (a .moves .now) (a .vectors .now) (a .masks .now) (a .tasks) (a .gates)) (a .file .now) (begun (a .t6) (a .log .now)) (l .s) (l .log) (l .i) (l .inv .2) Excluded refl (e ∙ rw (ne-eqb _ _ (c .before .before .before .before .if3 .left), ← c .before .before .before .at-task .ensures, c .before .if4 .taken)) (a .count) (c .before .before .before .before .before .before .before .before .before .before .before .before .before .before .before .before .before .before .loop-test .taken) in
+    (c .stopped5 .ensures ∙ ap ranOf (sym h), ap (λ (x : Course). x .log) (sym h))
+
+is-full-requires : tie.Need-is-full-requires Inv-loop μ-loop
+is-full-requires c κs = search needs
+
+stopped-requires-6 : tie.Need-stopped-requires-6 Inv-loop μ-loop
+stopped-requires-6 c κs = search needs
+
+same-length-6 : tie.Need-same-length-6 Inv-loop μ-loop
+same-length-6 c = c .before .before .before .before .before .before .before .before .before .before .before .before .before .before .before .before .before .before .before .before .before .loop .inv .1
+
+returns-6 : tie.Need-returns-6 Inv-loop μ-loop
+returns-6 c =
+    let a = c .before .before .before .before .before .before .before .before .before .before .before .before .before .before .before .before .before .before .before .before .before .before .before .before .before .before .before .args in
+    let l = c .before .before .before .before .before .before .before .before .before .before .before .before .before .before .before .before .before .before .before .before .before .loop in
+    let e = from-gate (a .moves .now) (a .vectors .now) (a .masks .now) (a .tasks) (a .gates) (l .s) (l .log) _ (c .before .before .before .before .before .before .before .before .before .before .before .before .before .before .before .before .before .before .before .way-at .result) (c .before .before .before .before .before .before .before .before .before .before .before .before .before .before .before .before .before .before .before .way-at .ensures) _ _ (c .before .before .before .before .before .before .before .before .before .before .before .before .before .before .before .before .before .link .given .1 ∙ ap Along (c .before .before .before .before .before .before .before .before .before .before .before .before .before .before .link3 .given .1)) in
+    let full = sym (c .before .before .is-full .ensures) ∙ c .before .if5 .taken in
+    let h = ends-refused (steppedBy (a .moves .now) (a .vectors .now) (a .masks .now) (a .tasks) (a .gates)) (a .file .now) (begun (a .t6) (a .log .now)) (l .s) (l .log) (l .i) (l .inv .2) LogFull refl (e ∙ rw (ne-eqb _ _ (c .before .before .before .before .before .before .if3 .left), ← c .before .before .before .before .before .at-task .ensures, c .before .before .before .if4 .left, full)) (a .count) (c .before .before .before .before .before .before .before .before .before .before .before .before .before .before .before .before .before .before .before .before .loop-test .taken) in
+    (c .stopped6 .ensures ∙ ap ranOf (sym h), ap (λ (x : Course). x .log) (sym h))
+
+empty-requires : tie.Need-empty-requires Inv-loop μ-loop
+empty-requires c κs = search needs
+
+mul-t73 : tie.Need-mul-t73 Inv-loop μ-loop
+mul-t73 c = omega (arith, link-within _ _ _ _ _ (c .before .before .before .before .before .before .before .before .before .before .before .before .before .before .before .before .before .before .before .before .before .way-at .ensures) (c .before .before .before .before .before .before .before .before .before .before .before .before .before .before .before .before .before .before .before .link .given .1 ∙ ap Along (c .before .before .before .before .before .before .before .before .before .before .before .before .before .before .before .before .link3 .given .1)))
+
+element-set-from-sender-2 : tie.Need-element-set-from-sender-2 Inv-loop μ-loop
+element-set-from-sender-2 c = omega (arith, link-within _ _ _ _ _ (c .before .before .before .before .before .before .before .before .before .before .before .before .before .before .before .before .before .before .before .before .before .way-at .ensures) (c .before .before .before .before .before .before .before .before .before .before .before .before .before .before .before .before .before .before .before .link .given .1 ∙ ap Along (c .before .before .before .before .before .before .before .before .before .before .before .before .before .before .before .before .link3 .given .1)))
+
+mul-t73-2 : tie.Need-mul-t73-2 Inv-loop μ-loop
+mul-t73-2 c = omega (arith, link-within _ _ _ _ _ (c .before .before .before .before .before .before .before .before .before .before .before .before .before .before .before .before .before .before .before .before .before .way-at .ensures) (c .before .before .before .before .before .before .before .before .before .before .before .before .before .before .before .before .before .before .before .link .given .1 ∙ ap Along (c .before .before .before .before .before .before .before .before .before .before .before .before .before .before .before .before .link3 .given .1)))
+
+element-set-from-s-2 : tie.Need-element-set-from-s-2 Inv-loop μ-loop
+element-set-from-s-2 c = omega (arith, link-within _ _ _ _ _ (c .before .before .before .before .before .before .before .before .before .before .before .before .before .before .before .before .before .before .before .before .before .way-at .ensures) (c .before .before .before .before .before .before .before .before .before .before .before .before .before .before .before .before .before .before .before .link .given .1 ∙ ap Along (c .before .before .before .before .before .before .before .before .before .before .before .before .before .before .before .before .link3 .given .1)))
+
+mul-task : tie.Need-mul-task Inv-loop μ-loop
+mul-task c = omega (arith, link-within _ _ _ _ _ (c .before .before .before .before .before .before .before .before .before .before .before .before .before .before .before .before .before .before .before .before .before .way-at .ensures) (c .before .before .before .before .before .before .before .before .before .before .before .before .before .before .before .before .before .before .before .link .given .1 ∙ ap Along (c .before .before .before .before .before .before .before .before .before .before .before .before .before .before .before .before .link3 .given .1)))
+
+element-set-from-task : tie.Need-element-set-from-task Inv-loop μ-loop
+element-set-from-task c = omega (arith, link-within _ _ _ _ _ (c .before .before .before .before .before .before .before .before .before .before .before .before .before .before .before .before .before .before .before .before .before .way-at .ensures) (c .before .before .before .before .before .before .before .before .before .before .before .before .before .before .before .before .before .before .before .link .given .1 ∙ ap Along (c .before .before .before .before .before .before .before .before .before .before .before .before .before .before .before .before .link3 .given .1)))
 
 counted-requires : tie.Need-counted-requires Inv-loop μ-loop
-counted-requires c κs =
-    let m = c .before .before .before .before .before .before .before .met in
-    let d = sym (c .before .before .before .before .before .before .is-done .ensures) ∙ not-false (c .before .before .before .before .before .before .is-done .result) (c .before .before .before .before .before .if1 .left) in
-    rw (c .before .before .before .before .before .before .before .before .free-room .ensures) at (done-room _ _ _ _ _ _ _ _ _ (m .result) (m .ensures) d)
+counted-requires c κs = ltb-false _ _ (sym (c .before .before .before .before .is-full .ensures) ∙ c .before .before .before .if5 .left)
 
 write-requires : tie.Need-write-requires Inv-loop μ-loop
 write-requires c κs = search needs
 
-add-i : tie.Need-add-i Inv-loop μ-loop
-add-i c =
-    let l = c .before .before .before .before .before .before .before .before .before .before .before .before .before .before .before .before .before .before .before .loop-test .taken in
-    let f = c .before .before .before .before .before .before .before .before .before .before .before .before .before .before .before .before .before .before .before .before .before .before .before .before .before .before .fits .count .fits in
+add-i-2 : tie.Need-add-i-2 Inv-loop μ-loop
+add-i-2 c =
+    let l = c .before .before .before .before .before .before .before .before .before .before .before .before .before .before .before .before .before .before .before .before .before .before .before .before .before .before .before .loop-test .taken in
+    let f = c .before .before .before .before .before .before .before .before .before .before .before .before .before .before .before .before .before .before .before .before .before .before .before .before .before .before .before .before .before .before .before .before .before .before .fits .count .fits in
     omega arith
 
-loop-less : tie.Need-loop-less Inv-loop μ-loop
-loop-less c = search needs
+loop-less-2 : tie.Need-loop-less-2 Inv-loop μ-loop
+loop-less-2 c = let t = c .before .before .before .before .before .before .before .before .before .before .before .before .before .before .before .before .before .before .before .before .before .before .before .before .before .before .before .loop-test .taken in omega arith
 
-loop-again : tie.Need-loop-again Inv-loop μ-loop
-loop-again c =
-    let a = c .before .before .before .before .before .before .before .before .before .before .before .before .before .before .before .before .before .before .before .before .before .before .before .before .before .before .args in
-    let l = c .before .before .before .before .before .before .before .before .before .before .before .before .before .before .before .before .before .before .before .before .loop in
-    let t = c .before .before .before .before .before .before .before .before .before .before .before .before .before .before .before .before .before .before .before .loop-test .taken in
-    let d = sym (c .before .before .before .before .before .before .before .before .before .before .before .is-done .ensures) ∙ not-false (c .before .before .before .before .before .before .before .before .before .before .before .is-done .result) (c .before .before .before .before .before .before .before .before .before .before .if1 .left) in
-    let e = turn-done (a .moves .now) (a .vectors .now) (a .masks .now) (a .tasks) (a .gates) (a .file .now) (begun (a .t6) (a .log .now)) (l .s) (l .log) (l .i)
-    (c .before .before .before .before .before .before .before .before .before .before .before .before .before .before .before .before .before .before .way-at .result) (c .before .before .before .before .before .before .before .before .before .before .before .before .before .before .before .before .before .places-of .result) (c .before .before .before .before .before .before .before .before .before .before .before .before .met .result) (c .before .before .before .before .before .before .before .before .before .before .before .before .before .before .before .before .before .before .way-at .ensures) (c .before .before .before .before .before .before .before .before .before .before .before .before .before .before .before .before .before .places-of .ensures)
-    (c .before .before .before .before .before .before .before .before .before .before .before .before .met .ensures ∙ rw (c .before .before .before .before .before .before .before .before .before .before .before .before .before .free-room .ensures)) (l .inv .2) d in
-    (omega arith, ap length (c .before .before .write .ensures) ∙ written-length (l .s .logged) (c .before .before .before .before .before .before .before .before .before .before .before .before .met .result .work) (l .log) ∙ l .inv .1, rw (c .before .before .write .ensures, c .before .before .before .before .counted .ensures) e)
+loop-again-2 : tie.Need-loop-again-2 Inv-loop μ-loop
+loop-again-2 c =
+    let a = c .before .before .before .before .before .before .before .before .before .before .before .before .before .before .before .before .before .before .before .before .before .before .before .before .before .before .before .before .before .before .before .before .before .before .args in
+    let l = c .before .before .before .before .before .before .before .before .before .before .before .before .before .before .before .before .before .before .before .before .before .before .before .before .before .before .before .before .loop in
+    let t = c .before .before .before .before .before .before .before .before .before .before .before .before .before .before .before .before .before .before .before .before .before .before .before .before .before .before .before .loop-test .taken in
+    let e = from-gate (a .moves .now) (a .vectors .now) (a .masks .now) (a .tasks) (a .gates) (l .s) (l .log) _ (c .before .before .before .before .before .before .before .before .before .before .before .before .before .before .before .before .before .before .before .before .before .before .before .before .before .before .way-at .result) (c .before .before .before .before .before .before .before .before .before .before .before .before .before .before .before .before .before .before .before .before .before .before .before .before .before .before .way-at .ensures) _ _ (c .before .before .before .before .before .before .before .before .before .before .before .before .before .before .before .before .before .before .before .before .before .before .before .before .link .given .1 ∙ ap Along (c .before .before .before .before .before .before .before .before .before .before .before .before .before .before .before .before .before .before .before .before .before .link3 .given .1)) in
+    let full = sym (c .before .before .before .before .before .before .before .before .before .is-full .ensures) ∙ c .before .before .before .before .before .before .before .before .if5 .left in
+    let h = turn-done (steppedBy (a .moves .now) (a .vectors .now) (a .masks .now) (a .tasks) (a .gates)) (a .file .now) (begun (a .t6) (a .log .now)) (l .s) (l .log) (l .i) (l .inv .2) _ _ (rw (ne-eqb _ _ (c .before .before .before .before .before .before .before .before .before .before .before .before .before .if3 .left), ← c .before .before .before .before .before .before .before .before .before .before .before .before .at-task .ensures, c .before .before .before .before .before .before .before .before .before .before .if4 .left, full) at e) in
+    (omega arith, ap length (c .before .before .write .ensures) ∙ written-length (l .s .logged) (c .before .before .before .before .before .before .before .before .before .before .before .before .at-task .result) (l .log) ∙ l .inv .1, rw (c .before .before .write .ensures, c .before .before .before .before .counted .ensures, c .before .before .before .before .before .empty .ensures) h)
 
-same-length-2 : tie.Need-same-length-2 Inv-loop μ-loop
-same-length-2 c = search needs
+enum-known-link-4 : tie.Need-enum-known-link-4 Inv-loop μ-loop
+enum-known-link-4 c = search needs
 
-returns-2 : tie.Need-returns-2 Inv-loop μ-loop
+cast-x-2 : tie.Need-cast-x-2 Inv-loop μ-loop
+cast-x-2 c = search needs
+
+cast-y-2 : tie.Need-cast-y-2 Inv-loop μ-loop
+cast-y-2 c = search needs
+
+mul-sender-3 : tie.Need-mul-sender-3 Inv-loop μ-loop
+mul-sender-3 c = omega (arith, link-within _ _ _ _ _ (c .before .before .before .before .before .before .before .before .way-at .ensures) (c .before .before .before .before .before .before .link .given .1 ∙ ap Along (c .before .before .before .link4 .given .1)))
+
+element-copy-out-sender-3 : tie.Need-element-copy-out-sender-3 Inv-loop μ-loop
+element-copy-out-sender-3 c = omega (arith, link-within _ _ _ _ _ (c .before .before .before .before .before .before .before .before .way-at .ensures) (c .before .before .before .before .before .before .link .given .1 ∙ ap Along (c .before .before .before .link4 .given .1)))
+
+mul-receiver-3 : tie.Need-mul-receiver-3 Inv-loop μ-loop
+mul-receiver-3 c = omega (arith, link-within _ _ _ _ _ (c .before .before .before .before .before .before .before .before .before .way-at .ensures) (c .before .before .before .before .before .before .before .link .given .1 ∙ ap Along (c .before .before .before .before .link4 .given .1)))
+
+element-copy-out-receiver-3 : tie.Need-element-copy-out-receiver-3 Inv-loop μ-loop
+element-copy-out-receiver-3 c = omega (arith, link-within _ _ _ _ _ (c .before .before .before .before .before .before .before .before .before .way-at .ensures) (c .before .before .before .before .before .before .before .link .given .1 ∙ ap Along (c .before .before .before .before .link4 .given .1)))
+
+mul-channel-3 : tie.Need-mul-channel-3 Inv-loop μ-loop
+mul-channel-3 c = omega (arith, link-within _ _ _ _ _ (c .before .before .before .before .before .before .before .before .before .before .way-at .ensures) (c .before .before .before .before .before .before .before .before .link .given .1 ∙ ap Along (c .before .before .before .before .before .link4 .given .1)))
+
+element-copy-out-channel-3 : tie.Need-element-copy-out-channel-3 Inv-loop μ-loop
+element-copy-out-channel-3 c = omega (arith, link-within _ _ _ _ _ (c .before .before .before .before .before .before .before .before .before .before .way-at .ensures) (c .before .before .before .before .before .before .before .before .link .given .1 ∙ ap Along (c .before .before .before .before .before .link4 .given .1)))
+
+stopped-requires-7 : tie.Need-stopped-requires-7 Inv-loop μ-loop
+stopped-requires-7 c κs = search needs
+
+same-length-7 : tie.Need-same-length-7 Inv-loop μ-loop
+same-length-7 c = c .before .before .before .before .before .before .before .before .before .before .before .before .before .before .before .before .loop .inv .1
+
+returns-7 : tie.Need-returns-7 Inv-loop μ-loop
+returns-7 c =
+    let a = c .before .before .before .before .before .before .before .before .before .before .before .before .before .before .before .before .before .before .before .before .before .before .args in
+    let l = c .before .before .before .before .before .before .before .before .before .before .before .before .before .before .before .before .loop in
+    let e = to-task (a .moves .now) (a .vectors .now) (a .masks .now) (a .tasks) (a .gates) (l .s) (l .log) _ (c .before .before .before .before .before .before .before .before .before .before .before .before .before .before .way-at .result) (c .before .before .before .before .before .before .before .before .before .before .before .before .before .before .way-at .ensures) _ _ (c .before .before .before .before .before .before .before .before .before .before .before .before .link .given .1 ∙ ap Along (c .before .before .before .before .before .before .before .before .before .link4 .given .1)) in
+    let h = ends-refused (steppedBy (a .moves .now) (a .vectors .now) (a .masks .now) (a .tasks) (a .gates)) (a .file .now) (begun (a .t6) (a .log .now)) (l .s) (l .log) (l .i) (l .inv .2) ChannelEmpty refl (e ∙ rw (eq-eqb _ _ (c .before .if6 .taken))) (a .count) (c .before .before .before .before .before .before .before .before .before .before .before .before .before .before .before .loop-test .taken) in
+    (c .stopped7 .ensures ∙ ap ranOf (sym h), ap (λ (x : Course). x .log) (sym h))
+
+at-task-requires-2 : tie.Need-at-task-requires-2 Inv-loop μ-loop
+at-task-requires-2 c κs = search needs
+
+stopped-requires-8 : tie.Need-stopped-requires-8 Inv-loop μ-loop
+stopped-requires-8 c κs = search needs
+
+same-length-8 : tie.Need-same-length-8 Inv-loop μ-loop
+same-length-8 c = c .before .before .before .before .before .before .before .before .before .before .before .before .before .before .before .before .before .before .before .loop .inv .1
+
+returns-8 : tie.Need-returns-8 Inv-loop μ-loop
+returns-8 c =
+    let a = c .before .before .before .before .before .before .before .before .before .before .before .before .before .before .before .before .before .before .before .before .before .before .before .before .before .args in
+    let l = c .before .before .before .before .before .before .before .before .before .before .before .before .before .before .before .before .before .before .before .loop in
+    let e = to-task (a .moves .now) (a .vectors .now) (a .masks .now) (a .tasks) (a .gates) (l .s) (l .log) _ (c .before .before .before .before .before .before .before .before .before .before .before .before .before .before .before .before .before .way-at .result) (c .before .before .before .before .before .before .before .before .before .before .before .before .before .before .before .before .before .way-at .ensures) _ _ (c .before .before .before .before .before .before .before .before .before .before .before .before .before .before .before .link .given .1 ∙ ap Along (c .before .before .before .before .before .before .before .before .before .before .before .before .link4 .given .1)) in
+    let h = ends-refused (steppedBy (a .moves .now) (a .vectors .now) (a .masks .now) (a .tasks) (a .gates)) (a .file .now) (begun (a .t6) (a .log .now)) (l .s) (l .log) (l .i) (l .inv .2) Excluded refl (e ∙ rw (ne-eqb _ _ (c .before .before .before .before .if6 .left), ← c .before .before .before .at-task2 .ensures, c .before .if7 .taken)) (a .count) (c .before .before .before .before .before .before .before .before .before .before .before .before .before .before .before .before .before .before .loop-test .taken) in
+    (c .stopped8 .ensures ∙ ap ranOf (sym h), ap (λ (x : Course). x .log) (sym h))
+
+is-full-requires-2 : tie.Need-is-full-requires-2 Inv-loop μ-loop
+is-full-requires-2 c κs = search needs
+
+stopped-requires-9 : tie.Need-stopped-requires-9 Inv-loop μ-loop
+stopped-requires-9 c κs = search needs
+
+same-length-9 : tie.Need-same-length-9 Inv-loop μ-loop
+same-length-9 c = c .before .before .before .before .before .before .before .before .before .before .before .before .before .before .before .before .before .before .before .before .before .loop .inv .1
+
+returns-9 : tie.Need-returns-9 Inv-loop μ-loop
+returns-9 c =
+    let a = c .before .before .before .before .before .before .before .before .before .before .before .before .before .before .before .before .before .before .before .before .before .before .before .before .before .before .before .args in
+    let l = c .before .before .before .before .before .before .before .before .before .before .before .before .before .before .before .before .before .before .before .before .before .loop in
+    let e = to-task (a .moves .now) (a .vectors .now) (a .masks .now) (a .tasks) (a .gates) (l .s) (l .log) _ (c .before .before .before .before .before .before .before .before .before .before .before .before .before .before .before .before .before .before .before .way-at .result) (c .before .before .before .before .before .before .before .before .before .before .before .before .before .before .before .before .before .before .before .way-at .ensures) _ _ (c .before .before .before .before .before .before .before .before .before .before .before .before .before .before .before .before .before .link .given .1 ∙ ap Along (c .before .before .before .before .before .before .before .before .before .before .before .before .before .before .link4 .given .1)) in
+    let full = sym (c .before .before .is-full2 .ensures) ∙ c .before .if8 .taken in
+    let h = ends-refused (steppedBy (a .moves .now) (a .vectors .now) (a .masks .now) (a .tasks) (a .gates)) (a .file .now) (begun (a .t6) (a .log .now)) (l .s) (l .log) (l .i) (l .inv .2) LogFull refl (e ∙ rw (ne-eqb _ _ (c .before .before .before .before .before .before .if6 .left), ← c .before .before .before .before .before .at-task2 .ensures, c .before .before .before .if7 .left, full)) (a .count) (c .before .before .before .before .before .before .before .before .before .before .before .before .before .before .before .before .before .before .before .before .loop-test .taken) in
+    (c .stopped9 .ensures ∙ ap ranOf (sym h), ap (λ (x : Course). x .log) (sym h))
+
+empty-requires-2 : tie.Need-empty-requires-2 Inv-loop μ-loop
+empty-requires-2 c κs = search needs
+
+mul-t101 : tie.Need-mul-t101 Inv-loop μ-loop
+mul-t101 c = omega (arith, link-within _ _ _ _ _ (c .before .before .before .before .before .before .before .before .before .before .before .before .before .before .before .before .before .before .before .before .before .way-at .ensures) (c .before .before .before .before .before .before .before .before .before .before .before .before .before .before .before .before .before .before .before .link .given .1 ∙ ap Along (c .before .before .before .before .before .before .before .before .before .before .before .before .before .before .before .before .link4 .given .1)))
+
+element-set-from-sender-3 : tie.Need-element-set-from-sender-3 Inv-loop μ-loop
+element-set-from-sender-3 c = omega (arith, link-within _ _ _ _ _ (c .before .before .before .before .before .before .before .before .before .before .before .before .before .before .before .before .before .before .before .before .before .way-at .ensures) (c .before .before .before .before .before .before .before .before .before .before .before .before .before .before .before .before .before .before .before .link .given .1 ∙ ap Along (c .before .before .before .before .before .before .before .before .before .before .before .before .before .before .before .before .link4 .given .1)))
+
+mul-t101-2 : tie.Need-mul-t101-2 Inv-loop μ-loop
+mul-t101-2 c = omega (arith, link-within _ _ _ _ _ (c .before .before .before .before .before .before .before .before .before .before .before .before .before .before .before .before .before .before .before .before .before .way-at .ensures) (c .before .before .before .before .before .before .before .before .before .before .before .before .before .before .before .before .before .before .before .link .given .1 ∙ ap Along (c .before .before .before .before .before .before .before .before .before .before .before .before .before .before .before .before .link4 .given .1)))
+
+element-set-from-s-3 : tie.Need-element-set-from-s-3 Inv-loop μ-loop
+element-set-from-s-3 c = omega (arith, link-within _ _ _ _ _ (c .before .before .before .before .before .before .before .before .before .before .before .before .before .before .before .before .before .before .before .before .before .way-at .ensures) (c .before .before .before .before .before .before .before .before .before .before .before .before .before .before .before .before .before .before .before .link .given .1 ∙ ap Along (c .before .before .before .before .before .before .before .before .before .before .before .before .before .before .before .before .link4 .given .1)))
+
+mul-task-2 : tie.Need-mul-task-2 Inv-loop μ-loop
+mul-task-2 c = omega (arith, link-within _ _ _ _ _ (c .before .before .before .before .before .before .before .before .before .before .before .before .before .before .before .before .before .before .before .before .before .way-at .ensures) (c .before .before .before .before .before .before .before .before .before .before .before .before .before .before .before .before .before .before .before .link .given .1 ∙ ap Along (c .before .before .before .before .before .before .before .before .before .before .before .before .before .before .before .before .link4 .given .1)))
+
+element-set-from-task-2 : tie.Need-element-set-from-task-2 Inv-loop μ-loop
+element-set-from-task-2 c = omega (arith, link-within _ _ _ _ _ (c .before .before .before .before .before .before .before .before .before .before .before .before .before .before .before .before .before .before .before .before .before .way-at .ensures) (c .before .before .before .before .before .before .before .before .before .before .before .before .before .before .before .before .before .before .before .link .given .1 ∙ ap Along (c .before .before .before .before .before .before .before .before .before .before .before .before .before .before .before .before .link4 .given .1)))
+
+counted-requires-2 : tie.Need-counted-requires-2 Inv-loop μ-loop
+counted-requires-2 c κs = ltb-false _ _ (sym (c .before .before .before .before .is-full2 .ensures) ∙ c .before .before .before .if8 .left)
+
+write-requires-2 : tie.Need-write-requires-2 Inv-loop μ-loop
+write-requires-2 c κs = search needs
+
+add-i-3 : tie.Need-add-i-3 Inv-loop μ-loop
+add-i-3 c =
+    let l = c .before .before .before .before .before .before .before .before .before .before .before .before .before .before .before .before .before .before .before .before .before .before .before .before .before .before .before .loop-test .taken in
+    let f = c .before .before .before .before .before .before .before .before .before .before .before .before .before .before .before .before .before .before .before .before .before .before .before .before .before .before .before .before .before .before .before .before .before .before .fits .count .fits in
+    omega arith
+
+loop-less-3 : tie.Need-loop-less-3 Inv-loop μ-loop
+loop-less-3 c = let t = c .before .before .before .before .before .before .before .before .before .before .before .before .before .before .before .before .before .before .before .before .before .before .before .before .before .before .before .loop-test .taken in omega arith
+
+loop-again-3 : tie.Need-loop-again-3 Inv-loop μ-loop
+loop-again-3 c =
+    let a = c .before .before .before .before .before .before .before .before .before .before .before .before .before .before .before .before .before .before .before .before .before .before .before .before .before .before .before .before .before .before .before .before .before .before .args in
+    let l = c .before .before .before .before .before .before .before .before .before .before .before .before .before .before .before .before .before .before .before .before .before .before .before .before .before .before .before .before .loop in
+    let t = c .before .before .before .before .before .before .before .before .before .before .before .before .before .before .before .before .before .before .before .before .before .before .before .before .before .before .before .loop-test .taken in
+    let e = to-task (a .moves .now) (a .vectors .now) (a .masks .now) (a .tasks) (a .gates) (l .s) (l .log) _ (c .before .before .before .before .before .before .before .before .before .before .before .before .before .before .before .before .before .before .before .before .before .before .before .before .before .before .way-at .result) (c .before .before .before .before .before .before .before .before .before .before .before .before .before .before .before .before .before .before .before .before .before .before .before .before .before .before .way-at .ensures) _ _ (c .before .before .before .before .before .before .before .before .before .before .before .before .before .before .before .before .before .before .before .before .before .before .before .before .link .given .1 ∙ ap Along (c .before .before .before .before .before .before .before .before .before .before .before .before .before .before .before .before .before .before .before .before .before .link4 .given .1)) in
+    let full = sym (c .before .before .before .before .before .before .before .before .before .is-full2 .ensures) ∙ c .before .before .before .before .before .before .before .before .if8 .left in
+    let h = turn-done (steppedBy (a .moves .now) (a .vectors .now) (a .masks .now) (a .tasks) (a .gates)) (a .file .now) (begun (a .t6) (a .log .now)) (l .s) (l .log) (l .i) (l .inv .2) _ _ (rw (ne-eqb _ _ (c .before .before .before .before .before .before .before .before .before .before .before .before .before .if6 .left), ← c .before .before .before .before .before .before .before .before .before .before .before .before .at-task2 .ensures, c .before .before .before .before .before .before .before .before .before .before .if7 .left, full) at e) in
+    (omega arith, ap length (c .before .before .write2 .ensures) ∙ written-length (l .s .logged) (c .before .before .before .before .before .before .before .before .before .before .before .before .at-task2 .result) (l .log) ∙ l .inv .1, rw (c .before .before .write2 .ensures, c .before .before .before .before .counted2 .ensures, c .before .before .before .before .before .empty2 .ensures) h)
+
+same-length-10 : tie.Need-same-length-10 Inv-loop μ-loop
+same-length-10 c = search needs
+
+returns-10 : tie.Need-returns-10 Inv-loop μ-loop
 unfolding course
-returns-2 c =
+returns-10 c =
     let e : c .before .loop .i ≡ c .before .before .before .before .before .before .before .args .count = omega arith in
     let h = rw e at (c .before .loop .inv .2) in
     (ap ranOf (sym h), ap (λ (x : Course). x .log) (sym h))
@@ -135,28 +409,101 @@ run-spec =
     μ-loop
     loop-holds
     way-at-requires
-    places-of-requires
-    mul-p
-    element-copy-out-p
-    mul-q
-    element-copy-out-q
-    mul-k
-    element-copy-out-k
-    free-room-requires
-    met-requires
-    is-done-requires
+    enum-told
+    stopped-requires
     same-length
     returns
+    enum-known-link
+    enum-known-link-2
+    cast-x
+    cast-z
     mul-sender
-    element-set-from-sender
+    element-copy-out-sender
     mul-receiver
-    element-set-from-receiver
+    element-copy-out-receiver
+    mul-channel
+    element-copy-out-channel
+    stopped-requires-2
+    same-length-2
+    returns-2
+    byte-requires
+    at-gate-requires
+    stopped-requires-3
+    same-length-3
+    returns-3
+    popped-requires
+    mul-t52
+    element-set-from-sender
+    mul-t52-2
+    element-set-from-s
     mul-gate
     element-set-from-gate
-    counted-requires
-    write-requires
     add-i
     loop-less
     loop-again
-    same-length-2
-    returns-2)
+    enum-known-link-3
+    cast-z-2
+    cast-y
+    mul-sender-2
+    element-copy-out-sender-2
+    mul-receiver-2
+    element-copy-out-receiver-2
+    mul-channel-2
+    element-copy-out-channel-2
+    stopped-requires-4
+    same-length-4
+    returns-4
+    at-task-requires
+    stopped-requires-5
+    same-length-5
+    returns-5
+    is-full-requires
+    stopped-requires-6
+    same-length-6
+    returns-6
+    empty-requires
+    mul-t73
+    element-set-from-sender-2
+    mul-t73-2
+    element-set-from-s-2
+    mul-task
+    element-set-from-task
+    counted-requires
+    write-requires
+    add-i-2
+    loop-less-2
+    loop-again-2
+    enum-known-link-4
+    cast-x-2
+    cast-y-2
+    mul-sender-3
+    element-copy-out-sender-3
+    mul-receiver-3
+    element-copy-out-receiver-3
+    mul-channel-3
+    element-copy-out-channel-3
+    stopped-requires-7
+    same-length-7
+    returns-7
+    at-task-requires-2
+    stopped-requires-8
+    same-length-8
+    returns-8
+    is-full-requires-2
+    stopped-requires-9
+    same-length-9
+    returns-9
+    empty-requires-2
+    mul-t101
+    element-set-from-sender-3
+    mul-t101-2
+    element-set-from-s-3
+    mul-task-2
+    element-set-from-task-2
+    counted-requires-2
+    write-requires-2
+    add-i-3
+    loop-less-3
+    loop-again-3
+    same-length-10
+    returns-10)
