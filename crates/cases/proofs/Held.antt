@@ -15,8 +15,9 @@ use Rattle.gates.specs.Gates.{searched, atGate}
 use Rattle.delivery.specs.Delivery.{written, toGate, toTask, between, soundFor, delivered}
 use Rattle.fresh.specs.Fresh.{freshState, fresh}
 use Rattle.quiet.specs.Quiet.{quiet}
-use Rattle.cases.specs.Paper.{lineAfter, numbersOf, cases, AllHold}
+use Rattle.line.specs.Runs.{run, answers}
+use Rattle.cases.specs.Paper.{cases, AllHold}
 
 pub all-hold : AllHold cases
-unfolding allBelow headFault walk recordAt newBelow kindFault inRange isNinth inOrder fieldFault withRecord afterRecord faultAt withRecordAt endedOf cases movesSound soundTable firstFrom allFrom taskSound gateSound soundState announced sentBelow handled listHandled atTask searched atGate written toGate toTask between soundFor delivered freshState fresh quiet lineAfter numbersOf
+unfolding allBelow headFault walk recordAt newBelow kindFault inRange isNinth inOrder fieldFault withRecord afterRecord faultAt withRecordAt endedOf cases movesSound soundTable firstFrom allFrom taskSound gateSound soundState announced sentBelow handled listHandled atTask searched atGate written toGate toTask between soundFor delivered freshState fresh quiet run answers
 all-hold = refl

@@ -5,8 +5,8 @@ use mathlib.Core.List.{List, [], _∷_, _++_, map}
 use mathlib.Core.Path.{_≡_}
 use lib.ListN.{take}
 use Rattle.answers.specs.Answers.{numberOf}
-use Rattle.delivery.specs.Delivery.{Outcome, delivered}
-use Rattle.fresh.specs.Fresh.{fresh}
+use Rattle.delivery.specs.Delivery.{Outcome}
+use Rattle.line.specs.Runs.{begun, answers, runFrom}
 use Rattle.quiet.specs.Quiet.{quiet}
 use Rattle.reader.specs.Reader.{readOf}
 use Rattle.table.specs.Tables.{emptyTable}
@@ -31,28 +31,14 @@ abbrev pub taskStates : ℕ → State → List ℕ
 taskStates zero s = []
 taskStates (suc n) s = taskStates n s ++ (taskOf s n .state ∷ [])
 
--- the deliveries in turn, each on the state and log the last one left
-unfoldable pub lineAfter : Table → Outcome → List Delivery → Outcome
-lineAfter T o [] = o
-lineAfter T o (d ∷ ds) = lineAfter T (delivered T (o .state) (o .log) (d .from) (d .to)) ds
-
-unfoldable pub numbersOf : Table → Outcome → List Delivery → List ℕ
-numbersOf T o [] = []
-numbersOf T o (d ∷ ds) =
-    numberOf (delivered T (o .state) (o .log) (d .from) (d .to) .answer)
-    ∷ numbersOf T (delivered T (o .state) (o .log) (d .from) (d .to)) ds
-
-abbrev pub started : Table → List ℕ → Outcome
-started T log = record { state = fresh T .state; answer = fresh T .answer; log = log }
-
 abbrev pub seen : Table → List ℕ → Outcome → Back
 seen T numbers o = ran numbers (o .log) (taskStates (T .tasks) (o .state)) (quiet (o .state))
 
 abbrev pub answered : Given → Back
 answered (file s) = read (numberOf (readOf s .answer)) (readOf s .place) (readOf s .table)
 answered (line s log ds) =
-    seen (readOf s .table) (numbersOf (readOf s .table) (started (readOf s .table) log) ds)
-    (lineAfter (readOf s .table) (started (readOf s .table) log) ds)
+    seen (readOf s .table) (map numberOf (answers (readOf s .table) (begun (readOf s .table) log) ds))
+    (runFrom (readOf s .table) log ds)
 
 -- what is handed in, and what must come back
 pub record Case : Type 0 where

@@ -131,24 +131,24 @@ module _ (P : Plan) (W : PlanRight P) (n m : ℕ) (tasks-in : P .tasks ≤ n) (g
   there : {v t : ℕ} → P .holds g v t ≡ true → (g < m) × (t < n)
   there {v} {t} i = (let l = W .gate-there g v t i in omega arith, let l = W .task-there g v t i in omega arith)
 
-  none-up : locksUp n m s g ≡ 0
+  none-up : locksUp n m (s .up) (s .down) (s .across) (s .waiting) g ≡ 0
   none-up = sum-none n _ (λ t _. sum-none m _ (λ x _. rw (j .pair t x .up-is) (up-locks g x (resultBy t (h .token x)) (h .readyBefore t x) (h .readyLast t x))))
 
   -- each sum where the token is not at a place that it counts, and where it is
-  none-down : ((t : ℕ) → downMessages g t (h .token g) ≡ []) → locksDown n m s g ≡ 0
+  none-down : ((t : ℕ) → downMessages g t (h .token g) ≡ []) → locksDown n m (s .up) (s .down) (s .across) (s .waiting) g ≡ 0
   none-down f = sum-none m _ (λ x _. sum-none n _ (λ t _. down-locks x t ∙ elim (eq-case x g) [ same p e ↦ simp (e, f t) | diff p e ↦ rw e ]))
 
-  one-down : {v b : ℕ} → h .token g ≡ sent v b → locksDown n m s g ≡ 1
+  one-down : {v b : ℕ} → h .token g ≡ sent v b → locksDown n m (s .up) (s .down) (s .across) (s .waiting) g ≡ 1
   one-down {v} {b} e =
       let i = there ((rw e at (j .gate g .token-right)) .0) in
       sum-one m _ g (i .0)
       (sum-one n _ b (i .1) (down-locks g b ∙ simp (e, eqb-same)) (λ t d. down-locks g t ∙ simp (e, eqb-same, eqb-diff t b d)))
       (λ x d. sum-none n _ (λ t _. down-locks x t ∙ rw (eqb-diff x g d)))
 
-  none-across : ((a : ℕ) → passedBy a (h .token g) ≡ none) → locksAcross n m s g ≡ 0
+  none-across : ((a : ℕ) → passedBy a (h .token g) ≡ none) → locksAcross n m (s .up) (s .down) (s .across) (s .waiting) g ≡ 0
   none-across f = sum-none n _ (λ a _. sum-none n _ (λ b _. across-locks a b ∙ simp (f a, and-no)))
 
-  one-across : {v a b : ℕ} → h .token g ≡ passed v a b → locksAcross n m s g ≡ 1
+  one-across : {v a b : ℕ} → h .token g ≡ passed v a b → locksAcross n m (s .up) (s .down) (s .across) (s .waiting) g ≡ 1
   one-across {v} {a} {b} e =
       let r = rw e at (j .gate g .token-right) in
       let i = there (r .0) in
@@ -157,21 +157,21 @@ module _ (P : Plan) (W : PlanRight P) (n m : ℕ) (tasks-in : P .tasks ≤ n) (g
       (sum-one n _ b (i .1) (across-locks a b ∙ simp (e, eqb-same, lt-ltb a b l)) (λ x d. across-locks a x ∙ simp (e, eqb-same, eqb-diff x b d, and-no)))
       (λ x d. sum-none n _ (λ y _. across-locks x y ∙ simp (e, eqb-diff x a d, and-no)))
 
-  none-waiting : ((t : ℕ) → queuedAt t (h .token g) ≡ []) → locksWaiting n m s g ≡ 0
+  none-waiting : ((t : ℕ) → queuedAt t (h .token g) ≡ []) → locksWaiting n m (s .up) (s .down) (s .across) (s .waiting) g ≡ 0
   none-waiting f = sum-none n _ (λ t _. waiting-locks t ∙ rw (f t))
 
-  one-waiting : {v b : ℕ} → h .token g ≡ queued v b → locksWaiting n m s g ≡ 1
+  one-waiting : {v b : ℕ} → h .token g ≡ queued v b → locksWaiting n m (s .up) (s .down) (s .across) (s .waiting) g ≡ 1
   one-waiting {v} {b} e =
       sum-one n _ b (there (rw e at (j .gate g .token-right)) .1) (waiting-locks b ∙ simp (e, eqb-same)) (λ t d. waiting-locks t ∙ simp (e, eqb-diff t b d))
 
-  no-result : ((t : ℕ) → resultBy t (h .token g) ≡ none) → resultsTo n m s g ≡ 0
+  no-result : ((t : ℕ) → resultBy t (h .token g) ≡ none) → resultsTo n m (s .up) (s .down) (s .across) (s .waiting) g ≡ 0
   no-result f = sum-none n _ (λ t _. up-results t ∙ rw (f t))
 
-  one-result : {v u : ℕ} {k : Bool} → h .token g ≡ returned v u k → resultsTo n m s g ≡ 1
+  one-result : {v u : ℕ} {k : Bool} → h .token g ≡ returned v u k → resultsTo n m (s .up) (s .down) (s .across) (s .waiting) g ≡ 1
   one-result {v} {u} {k} e =
       sum-one n _ u (there (rw e at (j .gate g .token-right)) .1) (up-results u ∙ simp (e, eqb-same)) (λ t d. up-results t ∙ simp (e, eqb-diff t u d))
 
-  counted : (k : Token) → h .token g ≡ k → ((v t : ℕ) → k ≢ inHand v t) → underWay n m s g ≡ dealing (dealOf k)
+  counted : (k : Token) → h .token g ≡ k → ((v t : ℕ) → k ≢ inHand v t) → underWay n m (s .up) (s .down) (s .across) (s .waiting) g ≡ dealing (dealOf k)
   counted home e out = rw (none-up, none-down (λ t. rw e), none-across (λ t. rw e), none-waiting (λ t. rw e), no-result (λ t. rw e))
   counted (sent v b) e out = rw (none-up, one-down e, none-across (λ t. rw e), none-waiting (λ t. rw e), no-result (λ t. rw e))
   counted (passed v a b) e out = rw (none-up, none-down (λ t. rw e), one-across e, none-waiting (λ t. rw e), no-result (λ t. rw e))
@@ -180,6 +180,6 @@ module _ (P : Plan) (W : PlanRight P) (n m : ℕ) (tasks-in : P .tasks ≤ n) (g
   counted (returned v u k) e out = rw (none-up, none-down (λ t. rw e), none-across (λ t. rw e), none-waiting (λ t. rw e), one-result e)
 
 pub one-under-way : (P : Plan) (W : PlanRight P) (n m : ℕ) → P .tasks ≤ n → P .gates ≤ m → (s : Line) → Invariant P s → (g : ℕ)
-    → underWay n m s g ≡ dealing (s .deal g)
+    → underWay n m (s .up) (s .down) (s .across) (s .waiting) g ≡ dealing (s .deal g)
 one-under-way P W n m tasks-in gates-in s i g =
     rw (i .links .gate g .deal-is) (counted P W n m tasks-in gates-in s (i .ghost) (i .links) g (i .ghost .token g) refl (i .none-in-hand g))

@@ -3,12 +3,11 @@ use Prim.Native.Nat.{ℕ, suc, zero, _+_}
 use mathlib.Core.Bool.{Bool, true, false, cond}
 use mathlib.Core.List.{List, [], _∷_}
 use lib.Dec.{eqb}
-use Rattle.channels.specs.declared.Request.{Request}
 use Rattle.channels.specs.declared.Message.{Message}
 use Rattle.channels.specs.declared.Message.the-variants.{Ready, Lock, Commit, Abort}
+use Rattle.channels.specs.declared.Request.{Request}
 use Rattle.state.specs.declared.Deal.{Deal}
 use Rattle.state.specs.declared.Deal.the-variants.{Idle, Dealing}
-use Rattle.protocol.specs.Lines.{Line}
 
 -- how many elements pass, and the sum of f over the numbers below n
 abbrev pub countOf : {A : Type 0} → (A → Bool) → List A → ℕ
@@ -34,22 +33,22 @@ isResult (Lock r) = false
 isResult (Commit x) = true
 isResult (Abort x) = true
 
--- over the tasks below n and the gates below m
-module _ (n m : ℕ) (s : Line) (g : ℕ) where
+-- Of what the channels and lists hold, over the tasks below n and the gates below m.
+module _ (n m : ℕ) (up down across : ℕ → ℕ → List Message) (waiting : ℕ → List Request) (g : ℕ) where
   abbrev pub locksUp : ℕ
-  locksUp = sumBelow n (λ t. sumBelow m (λ x. countOf (isLockOf g) (s .up t x)))
+  locksUp = sumBelow n (λ t. sumBelow m (λ x. countOf (isLockOf g) (up t x)))
 
   abbrev pub locksDown : ℕ
-  locksDown = sumBelow m (λ x. sumBelow n (λ t. countOf (isLockOf g) (s .down x t)))
+  locksDown = sumBelow m (λ x. sumBelow n (λ t. countOf (isLockOf g) (down x t)))
 
   abbrev pub locksAcross : ℕ
-  locksAcross = sumBelow n (λ a. sumBelow n (λ b. countOf (isLockOf g) (s .across a b)))
+  locksAcross = sumBelow n (λ a. sumBelow n (λ b. countOf (isLockOf g) (across a b)))
 
   abbrev pub locksWaiting : ℕ
-  locksWaiting = sumBelow n (λ t. countOf (isFor g) (s .waiting t))
+  locksWaiting = sumBelow n (λ t. countOf (isFor g) (waiting t))
 
   abbrev pub resultsTo : ℕ
-  resultsTo = sumBelow n (λ t. countOf isResult (s .up t g))
+  resultsTo = sumBelow n (λ t. countOf isResult (up t g))
 
   abbrev pub underWay : ℕ
   underWay = locksUp + (locksDown + (locksAcross + (locksWaiting + resultsTo)))

@@ -23,7 +23,7 @@ use Rattle.delivery.specs.Delivery.{Outcome, withLog, refused, settledAtTask, s
 use Rattle.delivery.specs.declared.Way.{Way}
 use Rattle.delivery.specs.declared.Way.the-variants.{Nowhere, Along}
 use Rattle.run.specs.Run.{steppedBy}
-use Rattle.run.specs.Sides.{wayBy}
+use Rattle.run.specs.Parts.{wayBy}
 
 -- what is at the front, by whether the channel is empty
 by-front : (f : Front → Outcome) (empty : Bool) (m : Message)

@@ -10,7 +10,7 @@ use Rattle.delivery.specs.declared.Way.{Way}
 use Rattle.delivery.specs.declared.Way.the-variants.{Along}
 use Rattle.delivery.specs.Within.{LinkWithin, WayWithin}
 use Rattle.delivery.proofs.Ways.{way-within, end-within}
-use Rattle.run.specs.Sides.{wayBy}
+use Rattle.run.specs.Parts.{wayBy}
 
 pub link-within : (tasks gates : ℕ) (d : Delivery) (way : Way) (link : Link) → way ≡ wayBy tasks gates d → way ≡ Along link
     → LinkWithin 16 16 link

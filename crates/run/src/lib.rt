@@ -8,7 +8,7 @@ ghost use mathlib.Core.Path.{_≡_};
 ghost use Prim.Native.Nat.{_+_, _-_, _/_, _≤_};
 ghost use lib.Dec.{ltb};
 ghost use Rattle.schedule.specs.Schedules.{deliveryOf};
-ghost use Rattle.run.specs.Sides.{wayBy, stopped};
+ghost use Rattle.run.specs.Parts.{wayBy, stopped};
 ghost use Rattle.run.specs.Run.{begun, course, ranOf, steppedBy};
 
 // The state after the run, the last answer, and how many deliveries were done.

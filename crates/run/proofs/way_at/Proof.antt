@@ -1,6 +1,6 @@
 -- `way_at` meets its contract, by what it calls.
 use borrow.Author.Needs.{needs}
-use Rattle.run.specs.Sides.{wayBy}
+use Rattle.run.specs.Parts.{wayBy}
 use Rattle.run.proofs.way_at.Statement.{statement}
 use Rattle.run.proofs.way_at.Tie as tie
 
