@@ -4,7 +4,7 @@ use numbers::TaskNo;
 use state::State;
 use state::Task;
 use table::Table;
-use tasks::Work;
+use tasks::Outgoing;
 ghost use mathlib.Core.Path.{_≡_};
 ghost use Rattle.fresh.specs.Fresh.{started, fresh};
 
@@ -44,6 +44,9 @@ pub fn fresh(table: Table) -> Started
 fn started_task(moves: &[u8], gates: u8, number: TaskNo, start: u8, task: Task) -> Task
     ensures { λ r. ⌜ r ≡ started (now (moves .entry)) gates (number .0) start task ⌝ }
 {
-    let w = tasks::announced(moves, gates, number, Work::begun(task.at_state(start)));
-    w.task
+    let up = task.up;
+    let before = Outgoing { up, ok: true };
+    let after = tasks::announced(moves, gates, number, start, before);
+    let up = after.up;
+    task.at_state(start).with_all_up(up)
 }

@@ -94,9 +94,10 @@ pub fn run<'a>(
                 Link::ToGate(t, g) => {
                     let x = t.0 as usize;
                     let z = g.0 as usize;
-                    let mut sender = s.tasks[x];
+                    let sender = s.tasks[x];
                     let receiver = s.gates[z];
-                    let channel = sender.up[z];
+                    let mut up = sender.up;
+                    let channel = up[z];
                     if channel.count == 0 {
                         return stopped(s, Answer::ChannelEmpty, i);
                     }
@@ -107,8 +108,9 @@ pub fn run<'a>(
                         return stopped(s, Answer::Excluded, i);
                     }
                     let gate = work.gate;
-                    sender.up[z] = channel.popped();
-                    s.tasks[x] = sender;
+                    up[z] = channel.popped();
+                    let popped = sender.with_all_up(up);
+                    s.tasks[x] = popped;
                     s.gates[z] = gate;
                     i += 1;
                     continue;
@@ -145,9 +147,10 @@ pub fn run<'a>(
                     let x = a.0 as usize;
                     let y = b.0 as usize;
                     let n = s.logged;
-                    let mut sender = s.tasks[x];
+                    let sender = s.tasks[x];
                     let receiver = s.tasks[y];
-                    let channel = sender.across[y];
+                    let mut across = sender.across;
+                    let channel = across[y];
                     if channel.count == 0 {
                         return stopped(s, Answer::ChannelEmpty, i);
                     }
@@ -161,8 +164,9 @@ pub fn run<'a>(
                     }
                     let task = work.task;
                     let entries = work.entries;
-                    sender.across[y] = Channel1::empty();
-                    s.tasks[x] = sender;
+                    across[y] = Channel1::empty();
+                    let popped = sender.with_all_across(across);
+                    s.tasks[x] = popped;
                     s.tasks[y] = task;
                     s.logged = counted(log.len(), n, work.fired);
                     delivery::write(log, n, entries, work.fired);

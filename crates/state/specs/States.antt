@@ -86,11 +86,17 @@ withMode p m = record { state = p .state; mode = m; count = p .count; waiting = 
 abbrev pub withWaiting : Task → ℕ → List Request → Task
 withWaiting p n l = record { state = p .state; mode = p .mode; count = n; waiting = l; up = p .up; across = p .across }
 
+abbrev pub withAllUp : Task → List Channel3 → Task
+withAllUp p l = record { state = p .state; mode = p .mode; count = p .count; waiting = p .waiting; up = l; across = p .across }
+
+abbrev pub withAllAcross : Task → List Channel1 → Task
+withAllAcross p l = record { state = p .state; mode = p .mode; count = p .count; waiting = p .waiting; up = p .up; across = l }
+
 abbrev pub withUp : Task → ℕ → Channel3 → Task
-withUp p g c = record { state = p .state; mode = p .mode; count = p .count; waiting = p .waiting; up = set (p .up) g c; across = p .across }
+withUp p g c = withAllUp p (set (p .up) g c)
 
 abbrev pub withAcross : Task → ℕ → Channel1 → Task
-withAcross p b c = record { state = p .state; mode = p .mode; count = p .count; waiting = p .waiting; up = p .up; across = set (p .across) b c }
+withAcross p b c = withAllAcross p (set (p .across) b c)
 
 abbrev pub withDown : Gate → ℕ → Channel1 → Gate
 withDown k b c = record { offers = k .offers; deal = k .deal; down = set (k .down) b c }

@@ -7,7 +7,7 @@ use channels::Request;
 use numbers::GateNo;
 use numbers::TaskNo;
 ghost use mathlib.Core.Path.{_≡_};
-ghost use Rattle.state.specs.States.{emptyTask, emptyGate, emptyState, atState, withMode, withLast, movedUp, withoutFront};
+ghost use Rattle.state.specs.States.{emptyTask, emptyGate, emptyState, atState, withMode, withAllUp, withAllAcross, withLast, movedUp, withoutFront};
 ghost use Rattle.state.specs.States.{frontOf, popUp, putUp, popAcross, putAcross, popDown, putDown, popOf, putOf};
 
 pub enum Mode {
@@ -114,11 +114,21 @@ impl Task {
         }
     }
 
-    pub fn at_state(mut self, state: u8) -> Self
+    pub fn at_state(self, state: u8) -> Self
         ensures { λ r. ⌜ r ≡ atState self state ⌝ }
     {
-        self.state = state;
-        self
+        let mode = self.mode;
+        let waiting = self.waiting;
+        let up = self.up;
+        let across = self.across;
+        Task {
+            state,
+            mode,
+            count: self.count,
+            waiting,
+            up,
+            across,
+        }
     }
 
     pub fn with_mode(self, mode: Mode) -> Self
@@ -127,6 +137,42 @@ impl Task {
         let waiting = self.waiting;
         let up = self.up;
         let across = self.across;
+        Task {
+            state: self.state,
+            mode,
+            count: self.count,
+            waiting,
+            up,
+            across,
+        }
+    }
+}
+
+// A task with one of its arrays changed is made field by field: the arrays that stay are then copied
+// once, however many such changes follow each other.
+impl Task {
+    pub fn with_all_up(self, up: [Channel3; 16]) -> Self
+        ensures { λ r. ⌜ r ≡ withAllUp self up ⌝ }
+    {
+        let mode = self.mode;
+        let waiting = self.waiting;
+        let across = self.across;
+        Task {
+            state: self.state,
+            mode,
+            count: self.count,
+            waiting,
+            up,
+            across,
+        }
+    }
+
+    pub fn with_all_across(self, across: [Channel1; 16]) -> Self
+        ensures { λ r. ⌜ r ≡ withAllAcross self across ⌝ }
+    {
+        let mode = self.mode;
+        let waiting = self.waiting;
+        let up = self.up;
         Task {
             state: self.state,
             mode,
@@ -216,17 +262,19 @@ impl State {
 // What a party has sent. A pop takes the oldest message, and the filler comes back in its place; a
 // put finds room or leaves a full channel as it is. A number outside 16 finds no channel.
 impl Task {
-    pub fn pop_up(mut self, gate: GateNo) -> PoppedTask
+    pub fn pop_up(self, gate: GateNo) -> PoppedTask
         ensures { λ r. ⌜ r ≡ popUp self (gate .0) ⌝ }
     {
         let i = gate.0 as usize;
         if i < 16 {
-            let channel = self.up[i];
+            let mut up = self.up;
+            let channel = up[i];
             let first = channel.first;
             let front = front_of(channel.count, first);
             let rest = channel.popped();
-            self.up[i] = rest;
-            return PoppedTask { task: self, front };
+            up[i] = rest;
+            let task = self.with_all_up(up);
+            return PoppedTask { task, front };
         }
         PoppedTask {
             task: self,
@@ -234,16 +282,18 @@ impl Task {
         }
     }
 
-    pub fn put_up(mut self, gate: GateNo, message: Message) -> PutTask
+    pub fn put_up(self, gate: GateNo, message: Message) -> PutTask
         ensures { λ r. ⌜ r ≡ putUp self (gate .0) message ⌝ }
     {
         let i = gate.0 as usize;
         if i < 16 {
-            let channel = self.up[i];
+            let mut up = self.up;
+            let channel = up[i];
             let room = channel.count < 3;
             let longer = channel.put(message);
-            self.up[i] = longer;
-            return PutTask { task: self, room };
+            up[i] = longer;
+            let task = self.with_all_up(up);
+            return PutTask { task, room };
         }
         PutTask {
             task: self,
@@ -251,17 +301,19 @@ impl Task {
         }
     }
 
-    pub fn pop_across(mut self, task: TaskNo) -> PoppedTask
-        ensures { λ r. ⌜ r ≡ popAcross self (task .0) ⌝ }
+    pub fn pop_across(self, to: TaskNo) -> PoppedTask
+        ensures { λ r. ⌜ r ≡ popAcross self (to .0) ⌝ }
     {
-        let i = task.0 as usize;
+        let i = to.0 as usize;
         if i < 16 {
-            let channel = self.across[i];
+            let mut across = self.across;
+            let channel = across[i];
             let first = channel.first;
             let front = front_of(channel.count, first);
             let rest = Channel1::empty();
-            self.across[i] = rest;
-            return PoppedTask { task: self, front };
+            across[i] = rest;
+            let task = self.with_all_across(across);
+            return PoppedTask { task, front };
         }
         PoppedTask {
             task: self,
@@ -269,16 +321,18 @@ impl Task {
         }
     }
 
-    pub fn put_across(mut self, task: TaskNo, message: Message) -> PutTask
-        ensures { λ r. ⌜ r ≡ putAcross self (task .0) message ⌝ }
+    pub fn put_across(self, to: TaskNo, message: Message) -> PutTask
+        ensures { λ r. ⌜ r ≡ putAcross self (to .0) message ⌝ }
     {
-        let i = task.0 as usize;
+        let i = to.0 as usize;
         if i < 16 {
-            let channel = self.across[i];
+            let mut across = self.across;
+            let channel = across[i];
             let room = channel.count < 1;
             let longer = channel.put(message);
-            self.across[i] = longer;
-            return PutTask { task: self, room };
+            across[i] = longer;
+            let task = self.with_all_across(across);
+            return PutTask { task, room };
         }
         PutTask {
             task: self,

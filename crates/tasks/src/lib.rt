@@ -13,7 +13,8 @@ ghost use mathlib.Core.Path.{_≡_};
 ghost use Prim.Native.Nat.{_+_, _≤_, _<_};
 ghost use Rattle.channels.specs.Channels.{endsReady};
 ghost use Rattle.table.specs.Tables.{readyOf};
-ghost use Rattle.tasks.specs.Tasks.{with, begun, excluded, toGate, toTask, entered, isFree, waits, heldBy, sentBelow, sent, announced, movedTo, accepted, handledBy, handled, listHandled, locked, committed, aborted, atTask};
+ghost use Rattle.tasks.specs.Parts.{announcedUp};
+ghost use Rattle.tasks.specs.Tasks.{with, begun, excluded, toGate, toTask, entered, isFree, waits, heldBy, sentBelow, sent, movedTo, accepted, handledBy, handled, listHandled, locked, committed, aborted, atTask};
 
 // The work of one delivery on its receiver: the task so far, whether all of it is allowed, and the
 // log entries of it.
@@ -25,7 +26,7 @@ pub struct Work {
 }
 
 impl Work {
-    pub fn begun(task: Task) -> Self
+    fn begun(task: Task) -> Self
         ensures { λ r. ⌜ r ≡ begun task ⌝ }
     {
         let none = channels::no_request();
@@ -108,52 +109,62 @@ fn sent(number: TaskNo, mask: u16, gate: GateNo, message: Message, w: Work) -> W
 fn sent_below(number: TaskNo, mask: u16, message: Message, w: Work) -> Work
     ensures { λ r. ⌜ r ≡ sentBelow (number .0) mask message w ⌝ }
 {
-    let mut task = w.task;
+    let task = w.task;
+    let mut across = task.across;
     let mut ok = w.ok;
     let mut y: u8 = 0;
     while y < number.0 {
         let i = y as usize;
         if i < 16 {
-            let channel = task.across[i];
+            let channel = across[i];
             if sets::member(mask, TaskNo(y)) {
                 ok = ok & (channel.count < 1);
                 let longer = channel.put(message);
-                task.across[i] = longer;
+                across[i] = longer;
             }
         }
         y += 1;
     }
-    w.with(task, ok)
+    w.with(task.with_all_across(across), ok)
 }
 
-// READY to each gate that the task is now ready at, ascending.
-pub fn announced(moves: &[u8], gates: u8, number: TaskNo, w: Work) -> Work
-    ensures { λ r. ⌜ r ≡ announced (now (moves .entry)) gates (number .0) w ⌝ }
+// What a task has sent to the gates, and whether all of the work is allowed so far.
+pub struct Outgoing {
+    pub up: [Channel3; 16],
+    pub ok: bool,
+}
+
+// READY to each gate that the task in this state is ready at, ascending. Only what this changes goes in
+// and comes out: the rest of the work is not copied.
+pub fn announced(moves: &[u8], gates: u8, number: TaskNo, state: u8, before: Outgoing) -> Outgoing
+    ensures { λ r. ⌜ r ≡ announcedUp (now (moves .entry)) gates (number .0) state before ⌝ }
 {
-    let mut task = w.task;
-    let mut ok = w.ok;
-    let state = task.state;
+    let mut up = before.up;
+    let mut ok = before.ok;
     let mut g: u8 = 0;
     while g < gates {
         let i = g as usize;
         if i < 16 {
-            let channel = task.up[i];
+            let channel = up[i];
             if is_due(moves, number, state, GateNo(g), channel) {
                 ok = ok & (channel.count < 3);
                 let longer = channel.put(Message::Ready);
-                task.up[i] = longer;
+                up[i] = longer;
             }
         }
         g += 1;
     }
-    w.with(task, ok)
+    Outgoing { up, ok }
 }
 
 // Whether a READY is due: the task is ready at the gate, and the newest message there is none.
 fn is_due(moves: &[u8], number: TaskNo, state: u8, gate: GateNo, channel: Channel3) -> bool
     ensures { λ r. ⌜ r ≡ (readyOf (now (moves .entry)) (number .0) state (gate .0) && not (endsReady channel)) ⌝ }
 {
-    table::ready_at(moves, number, state, gate) & !channel.ends_ready()
+    if table::ready_at(moves, number, state, gate) {
+        return !channel.ends_ready();
+    }
+    false
 }
 
 // The task moves along a transition, is Free and announces itself.
@@ -164,8 +175,12 @@ fn moved_to(moves: &[u8], gates: u8, number: TaskNo, to: Move, w: Work) -> Work
         Move::Nowhere => w,
         Move::To(state) => {
             let task = w.task;
+            let up = task.up;
+            let before = Outgoing { up, ok: w.ok };
+            let after = announced(moves, gates, number, state, before);
+            let up = after.up;
             let free = task.at_state(state).with_mode(Mode::Free);
-            announced(moves, gates, number, w.with(free, w.ok))
+            w.with(free.with_all_up(up), after.ok)
         }
     }
 }

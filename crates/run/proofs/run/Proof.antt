@@ -69,23 +69,23 @@ element-copy-out-receiver : tie.Need-element-copy-out-receiver Inv-loop μ-loop
 element-copy-out-receiver c = omega (arith, link-within _ _ _ _ _ (c .before .before .before .before .before .before .before .before .before .way-at .ensures) (c .before .before .before .before .before .before .before .link .given .1 ∙ ap Along (c .before .before .before .before .link2 .given .1)))
 
 mul-channel : tie.Need-mul-channel Inv-loop μ-loop
-mul-channel c = omega (arith, link-within _ _ _ _ _ (c .before .before .before .before .before .before .before .before .before .before .way-at .ensures) (c .before .before .before .before .before .before .before .before .link .given .1 ∙ ap Along (c .before .before .before .before .before .link2 .given .1)))
+mul-channel c = omega (arith, link-within _ _ _ _ _ (c .before .before .before .before .before .before .before .before .before .before .before .way-at .ensures) (c .before .before .before .before .before .before .before .before .before .link .given .1 ∙ ap Along (c .before .before .before .before .before .before .link2 .given .1)))
 
-element-copy-out-channel : tie.Need-element-copy-out-channel Inv-loop μ-loop
-element-copy-out-channel c = omega (arith, link-within _ _ _ _ _ (c .before .before .before .before .before .before .before .before .before .before .way-at .ensures) (c .before .before .before .before .before .before .before .before .link .given .1 ∙ ap Along (c .before .before .before .before .before .link2 .given .1)))
+array-copy-out-channel : tie.Need-array-copy-out-channel Inv-loop μ-loop
+array-copy-out-channel c = omega (arith, link-within _ _ _ _ _ (c .before .before .before .before .before .before .before .before .before .before .before .way-at .ensures) (c .before .before .before .before .before .before .before .before .before .link .given .1 ∙ ap Along (c .before .before .before .before .before .before .link2 .given .1)))
 
 stopped-requires-2 : tie.Need-stopped-requires-2 Inv-loop μ-loop
 stopped-requires-2 c κs = search needs
 
 same-length-2 : tie.Need-same-length-2 Inv-loop μ-loop
-same-length-2 c = c .before .before .before .before .before .before .before .before .before .before .before .before .before .before .before .before .loop .inv .1
+same-length-2 c = c .before .before .before .before .before .before .before .before .before .before .before .before .before .before .before .before .before .loop .inv .1
 
 returns-2 : tie.Need-returns-2 Inv-loop μ-loop
 returns-2 c =
-    let a = c .before .before .before .before .before .before .before .before .before .before .before .before .before .before .before .before .before .before .before .before .before .before .args in
-    let l = c .before .before .before .before .before .before .before .before .before .before .before .before .before .before .before .before .loop in
-    let e = to-gate (a .moves .now) (a .vectors .now) (a .masks .now) (a .tasks) (a .gates) (l .s) (l .log) _ (c .before .before .before .before .before .before .before .before .before .before .before .before .before .before .way-at .result) (c .before .before .before .before .before .before .before .before .before .before .before .before .before .before .way-at .ensures) _ _ (c .before .before .before .before .before .before .before .before .before .before .before .before .link .given .1 ∙ ap Along (c .before .before .before .before .before .before .before .before .before .link2 .given .1)) in
-    let h = ends-refused (steppedBy (a .moves .now) (a .vectors .now) (a .masks .now) (a .tasks) (a .gates)) (a .file .now) (begun (a .t6) (a .log .now)) (l .s) (l .log) (l .i) (l .inv .2) ChannelEmpty refl (e ∙ rw (eq-eqb _ _ (c .before .if1 .taken))) (a .count) (c .before .before .before .before .before .before .before .before .before .before .before .before .before .before .before .loop-test .taken) in
+    let a = c .before .before .before .before .before .before .before .before .before .before .before .before .before .before .before .before .before .before .before .before .before .before .before .args in
+    let l = c .before .before .before .before .before .before .before .before .before .before .before .before .before .before .before .before .before .loop in
+    let e = to-gate (a .moves .now) (a .vectors .now) (a .masks .now) (a .tasks) (a .gates) (l .s) (l .log) _ (c .before .before .before .before .before .before .before .before .before .before .before .before .before .before .before .way-at .result) (c .before .before .before .before .before .before .before .before .before .before .before .before .before .before .before .way-at .ensures) _ _ (c .before .before .before .before .before .before .before .before .before .before .before .before .before .link .given .1 ∙ ap Along (c .before .before .before .before .before .before .before .before .before .before .link2 .given .1)) in
+    let h = ends-refused (steppedBy (a .moves .now) (a .vectors .now) (a .masks .now) (a .tasks) (a .gates)) (a .file .now) (begun (a .t6) (a .log .now)) (l .s) (l .log) (l .i) (l .inv .2) ChannelEmpty refl (e ∙ rw (eq-eqb _ _ (c .before .if1 .taken))) (a .count) (c .before .before .before .before .before .before .before .before .before .before .before .before .before .before .before .before .loop-test .taken) in
     (c .stopped2 .ensures ∙ ap ranOf (sym h), ap (λ (x : Course). x .log) (sym h))
 
 byte-requires : tie.Need-byte-requires Inv-loop μ-loop
@@ -98,54 +98,57 @@ stopped-requires-3 : tie.Need-stopped-requires-3 Inv-loop μ-loop
 stopped-requires-3 c κs = search needs
 
 same-length-3 : tie.Need-same-length-3 Inv-loop μ-loop
-same-length-3 c = c .before .before .before .before .before .before .before .before .before .before .before .before .before .before .before .before .before .before .before .before .loop .inv .1
+same-length-3 c = c .before .before .before .before .before .before .before .before .before .before .before .before .before .before .before .before .before .before .before .before .before .loop .inv .1
 
 returns-3 : tie.Need-returns-3 Inv-loop μ-loop
 returns-3 c =
-    let a = c .before .before .before .before .before .before .before .before .before .before .before .before .before .before .before .before .before .before .before .before .before .before .before .before .before .before .args in
-    let l = c .before .before .before .before .before .before .before .before .before .before .before .before .before .before .before .before .before .before .before .before .loop in
-    let e = to-gate (a .moves .now) (a .vectors .now) (a .masks .now) (a .tasks) (a .gates) (l .s) (l .log) _ (c .before .before .before .before .before .before .before .before .before .before .before .before .before .before .before .before .before .before .way-at .result) (c .before .before .before .before .before .before .before .before .before .before .before .before .before .before .before .before .before .before .way-at .ensures) _ _ (c .before .before .before .before .before .before .before .before .before .before .before .before .before .before .before .before .link .given .1 ∙ ap Along (c .before .before .before .before .before .before .before .before .before .before .before .before .before .link2 .given .1)) in
-    let h = ends-refused (steppedBy (a .moves .now) (a .vectors .now) (a .masks .now) (a .tasks) (a .gates)) (a .file .now) (begun (a .t6) (a .log .now)) (l .s) (l .log) (l .i) (l .inv .2) Excluded refl (e ∙ rw (ne-eqb _ _ (c .before .before .before .before .before .if1 .left), ← c .before .before .before .before .byte .ensures, ← c .before .before .before .at-gate .ensures, c .before .if2 .taken)) (a .count) (c .before .before .before .before .before .before .before .before .before .before .before .before .before .before .before .before .before .before .before .loop-test .taken) in
+    let a = c .before .before .before .before .before .before .before .before .before .before .before .before .before .before .before .before .before .before .before .before .before .before .before .before .before .before .before .args in
+    let l = c .before .before .before .before .before .before .before .before .before .before .before .before .before .before .before .before .before .before .before .before .before .loop in
+    let e = to-gate (a .moves .now) (a .vectors .now) (a .masks .now) (a .tasks) (a .gates) (l .s) (l .log) _ (c .before .before .before .before .before .before .before .before .before .before .before .before .before .before .before .before .before .before .before .way-at .result) (c .before .before .before .before .before .before .before .before .before .before .before .before .before .before .before .before .before .before .before .way-at .ensures) _ _ (c .before .before .before .before .before .before .before .before .before .before .before .before .before .before .before .before .before .link .given .1 ∙ ap Along (c .before .before .before .before .before .before .before .before .before .before .before .before .before .before .link2 .given .1)) in
+    let h = ends-refused (steppedBy (a .moves .now) (a .vectors .now) (a .masks .now) (a .tasks) (a .gates)) (a .file .now) (begun (a .t6) (a .log .now)) (l .s) (l .log) (l .i) (l .inv .2) Excluded refl (e ∙ rw (ne-eqb _ _ (c .before .before .before .before .before .if1 .left), ← c .before .before .before .before .byte .ensures, ← c .before .before .before .at-gate .ensures, c .before .if2 .taken)) (a .count) (c .before .before .before .before .before .before .before .before .before .before .before .before .before .before .before .before .before .before .before .before .loop-test .taken) in
     (c .stopped3 .ensures ∙ ap ranOf (sym h), ap (λ (x : Course). x .log) (sym h))
 
 popped-requires : tie.Need-popped-requires Inv-loop μ-loop
 popped-requires c κs = search needs
 
-mul-t52 : tie.Need-mul-t52 Inv-loop μ-loop
-mul-t52 c = omega (arith, link-within _ _ _ _ _ (c .before .before .before .before .before .before .before .before .before .before .before .before .before .before .before .before .before .before .before .way-at .ensures) (c .before .before .before .before .before .before .before .before .before .before .before .before .before .before .before .before .before .link .given .1 ∙ ap Along (c .before .before .before .before .before .before .before .before .before .before .before .before .before .before .link2 .given .1)))
+mul-up : tie.Need-mul-up Inv-loop μ-loop
+mul-up c = omega (arith, link-within _ _ _ _ _ (c .before .before .before .before .before .before .before .before .before .before .before .before .before .before .before .before .before .before .before .before .way-at .ensures) (c .before .before .before .before .before .before .before .before .before .before .before .before .before .before .before .before .before .before .link .given .1 ∙ ap Along (c .before .before .before .before .before .before .before .before .before .before .before .before .before .before .before .link2 .given .1)))
 
-element-set-from-sender : tie.Need-element-set-from-sender Inv-loop μ-loop
-element-set-from-sender c = omega (arith, link-within _ _ _ _ _ (c .before .before .before .before .before .before .before .before .before .before .before .before .before .before .before .before .before .before .before .way-at .ensures) (c .before .before .before .before .before .before .before .before .before .before .before .before .before .before .before .before .before .link .given .1 ∙ ap Along (c .before .before .before .before .before .before .before .before .before .before .before .before .before .before .link2 .given .1)))
+array-set-from-up : tie.Need-array-set-from-up Inv-loop μ-loop
+array-set-from-up c = omega (arith, link-within _ _ _ _ _ (c .before .before .before .before .before .before .before .before .before .before .before .before .before .before .before .before .before .before .before .before .way-at .ensures) (c .before .before .before .before .before .before .before .before .before .before .before .before .before .before .before .before .before .before .link .given .1 ∙ ap Along (c .before .before .before .before .before .before .before .before .before .before .before .before .before .before .before .link2 .given .1)))
 
-mul-t52-2 : tie.Need-mul-t52-2 Inv-loop μ-loop
-mul-t52-2 c = omega (arith, link-within _ _ _ _ _ (c .before .before .before .before .before .before .before .before .before .before .before .before .before .before .before .before .before .before .before .way-at .ensures) (c .before .before .before .before .before .before .before .before .before .before .before .before .before .before .before .before .before .link .given .1 ∙ ap Along (c .before .before .before .before .before .before .before .before .before .before .before .before .before .before .link2 .given .1)))
+with-all-up-requires : tie.Need-with-all-up-requires Inv-loop μ-loop
+with-all-up-requires c κs = search needs
 
-element-set-from-s : tie.Need-element-set-from-s Inv-loop μ-loop
-element-set-from-s c = omega (arith, link-within _ _ _ _ _ (c .before .before .before .before .before .before .before .before .before .before .before .before .before .before .before .before .before .before .before .way-at .ensures) (c .before .before .before .before .before .before .before .before .before .before .before .before .before .before .before .before .before .link .given .1 ∙ ap Along (c .before .before .before .before .before .before .before .before .before .before .before .before .before .before .link2 .given .1)))
+mul-popped : tie.Need-mul-popped Inv-loop μ-loop
+mul-popped c = omega (arith, link-within _ _ _ _ _ (c .before .before .before .before .before .before .before .before .before .before .before .before .before .before .before .before .before .before .before .before .before .way-at .ensures) (c .before .before .before .before .before .before .before .before .before .before .before .before .before .before .before .before .before .before .before .link .given .1 ∙ ap Along (c .before .before .before .before .before .before .before .before .before .before .before .before .before .before .before .before .link2 .given .1)))
+
+element-set-from-popped : tie.Need-element-set-from-popped Inv-loop μ-loop
+element-set-from-popped c = omega (arith, link-within _ _ _ _ _ (c .before .before .before .before .before .before .before .before .before .before .before .before .before .before .before .before .before .before .before .before .before .way-at .ensures) (c .before .before .before .before .before .before .before .before .before .before .before .before .before .before .before .before .before .before .before .link .given .1 ∙ ap Along (c .before .before .before .before .before .before .before .before .before .before .before .before .before .before .before .before .link2 .given .1)))
 
 mul-gate : tie.Need-mul-gate Inv-loop μ-loop
-mul-gate c = omega (arith, link-within _ _ _ _ _ (c .before .before .before .before .before .before .before .before .before .before .before .before .before .before .before .before .before .before .before .way-at .ensures) (c .before .before .before .before .before .before .before .before .before .before .before .before .before .before .before .before .before .link .given .1 ∙ ap Along (c .before .before .before .before .before .before .before .before .before .before .before .before .before .before .link2 .given .1)))
+mul-gate c = omega (arith, link-within _ _ _ _ _ (c .before .before .before .before .before .before .before .before .before .before .before .before .before .before .before .before .before .before .before .before .before .way-at .ensures) (c .before .before .before .before .before .before .before .before .before .before .before .before .before .before .before .before .before .before .before .link .given .1 ∙ ap Along (c .before .before .before .before .before .before .before .before .before .before .before .before .before .before .before .before .link2 .given .1)))
 
 element-set-from-gate : tie.Need-element-set-from-gate Inv-loop μ-loop
-element-set-from-gate c = omega (arith, link-within _ _ _ _ _ (c .before .before .before .before .before .before .before .before .before .before .before .before .before .before .before .before .before .before .before .way-at .ensures) (c .before .before .before .before .before .before .before .before .before .before .before .before .before .before .before .before .before .link .given .1 ∙ ap Along (c .before .before .before .before .before .before .before .before .before .before .before .before .before .before .link2 .given .1)))
+element-set-from-gate c = omega (arith, link-within _ _ _ _ _ (c .before .before .before .before .before .before .before .before .before .before .before .before .before .before .before .before .before .before .before .before .before .way-at .ensures) (c .before .before .before .before .before .before .before .before .before .before .before .before .before .before .before .before .before .before .before .link .given .1 ∙ ap Along (c .before .before .before .before .before .before .before .before .before .before .before .before .before .before .before .before .link2 .given .1)))
 
 add-i : tie.Need-add-i Inv-loop μ-loop
 add-i c =
-    let l = c .before .before .before .before .before .before .before .before .before .before .before .before .before .before .before .before .before .before .before .before .loop-test .taken in
-    let f = c .before .before .before .before .before .before .before .before .before .before .before .before .before .before .before .before .before .before .before .before .before .before .before .before .before .before .before .fits .count .fits in
+    let l = c .before .before .before .before .before .before .before .before .before .before .before .before .before .before .before .before .before .before .before .before .before .before .loop-test .taken in
+    let f = c .before .before .before .before .before .before .before .before .before .before .before .before .before .before .before .before .before .before .before .before .before .before .before .before .before .before .before .before .before .fits .count .fits in
     omega arith
 
 loop-less : tie.Need-loop-less Inv-loop μ-loop
-loop-less c = let t = c .before .before .before .before .before .before .before .before .before .before .before .before .before .before .before .before .before .before .before .before .loop-test .taken in omega arith
+loop-less c = let t = c .before .before .before .before .before .before .before .before .before .before .before .before .before .before .before .before .before .before .before .before .before .before .loop-test .taken in omega arith
 
 loop-again : tie.Need-loop-again Inv-loop μ-loop
 loop-again c =
-    let a = c .before .before .before .before .before .before .before .before .before .before .before .before .before .before .before .before .before .before .before .before .before .before .before .before .before .before .before .args in
-    let l = c .before .before .before .before .before .before .before .before .before .before .before .before .before .before .before .before .before .before .before .before .before .loop in
-    let t = c .before .before .before .before .before .before .before .before .before .before .before .before .before .before .before .before .before .before .before .before .loop-test .taken in
-    let e = to-gate (a .moves .now) (a .vectors .now) (a .masks .now) (a .tasks) (a .gates) (l .s) (l .log) _ (c .before .before .before .before .before .before .before .before .before .before .before .before .before .before .before .before .before .before .before .way-at .result) (c .before .before .before .before .before .before .before .before .before .before .before .before .before .before .before .before .before .before .before .way-at .ensures) _ _ (c .before .before .before .before .before .before .before .before .before .before .before .before .before .before .before .before .before .link .given .1 ∙ ap Along (c .before .before .before .before .before .before .before .before .before .before .before .before .before .before .link2 .given .1)) in
-    let h = turn-done (steppedBy (a .moves .now) (a .vectors .now) (a .masks .now) (a .tasks) (a .gates)) (a .file .now) (begun (a .t6) (a .log .now)) (l .s) (l .log) (l .i) (l .inv .2) _ _ (rw (ne-eqb _ _ (c .before .before .before .before .before .before .if1 .left), ← c .before .before .before .before .before .byte .ensures, ← c .before .before .before .before .at-gate .ensures, c .before .before .if2 .left) at e) in
-    (omega arith, l .inv .1, rw (c .popped .ensures) h)
+    let a = c .before .before .before .before .before .before .before .before .before .before .before .before .before .before .before .before .before .before .before .before .before .before .before .before .before .before .before .before .before .args in
+    let l = c .before .before .before .before .before .before .before .before .before .before .before .before .before .before .before .before .before .before .before .before .before .before .before .loop in
+    let t = c .before .before .before .before .before .before .before .before .before .before .before .before .before .before .before .before .before .before .before .before .before .before .loop-test .taken in
+    let e = to-gate (a .moves .now) (a .vectors .now) (a .masks .now) (a .tasks) (a .gates) (l .s) (l .log) _ (c .before .before .before .before .before .before .before .before .before .before .before .before .before .before .before .before .before .before .before .before .before .way-at .result) (c .before .before .before .before .before .before .before .before .before .before .before .before .before .before .before .before .before .before .before .before .before .way-at .ensures) _ _ (c .before .before .before .before .before .before .before .before .before .before .before .before .before .before .before .before .before .before .before .link .given .1 ∙ ap Along (c .before .before .before .before .before .before .before .before .before .before .before .before .before .before .before .before .link2 .given .1)) in
+    let h = turn-done (steppedBy (a .moves .now) (a .vectors .now) (a .masks .now) (a .tasks) (a .gates)) (a .file .now) (begun (a .t6) (a .log .now)) (l .s) (l .log) (l .i) (l .inv .2) _ _ (rw (ne-eqb _ _ (c .before .before .before .before .before .before .before .if1 .left), ← c .before .before .before .before .before .before .byte .ensures, ← c .before .before .before .before .before .at-gate .ensures, c .before .before .before .if2 .left) at e) in
+    (omega arith, l .inv .1, rw (c .with-all-up .ensures, c .before .popped .ensures) h)
 
 enum-known-link-3 : tie.Need-enum-known-link-3 Inv-loop μ-loop
 enum-known-link-3 c = search needs
@@ -171,8 +174,8 @@ element-copy-out-receiver-2 c = omega (arith, link-within _ _ _ _ _ (c .before .
 mul-channel-2 : tie.Need-mul-channel-2 Inv-loop μ-loop
 mul-channel-2 c = omega (arith, link-within _ _ _ _ _ (c .before .before .before .before .before .before .before .before .before .before .way-at .ensures) (c .before .before .before .before .before .before .before .before .link .given .1 ∙ ap Along (c .before .before .before .before .before .link3 .given .1)))
 
-element-copy-out-channel-2 : tie.Need-element-copy-out-channel-2 Inv-loop μ-loop
-element-copy-out-channel-2 c = omega (arith, link-within _ _ _ _ _ (c .before .before .before .before .before .before .before .before .before .before .way-at .ensures) (c .before .before .before .before .before .before .before .before .link .given .1 ∙ ap Along (c .before .before .before .before .before .link3 .given .1)))
+element-copy-out-channel : tie.Need-element-copy-out-channel Inv-loop μ-loop
+element-copy-out-channel c = omega (arith, link-within _ _ _ _ _ (c .before .before .before .before .before .before .before .before .before .before .way-at .ensures) (c .before .before .before .before .before .before .before .before .link .given .1 ∙ ap Along (c .before .before .before .before .before .link3 .given .1)))
 
 stopped-requires-4 : tie.Need-stopped-requires-4 Inv-loop μ-loop
 stopped-requires-4 c κs = search needs
@@ -226,17 +229,17 @@ returns-6 c =
 empty-requires : tie.Need-empty-requires Inv-loop μ-loop
 empty-requires c κs = search needs
 
-mul-t73 : tie.Need-mul-t73 Inv-loop μ-loop
-mul-t73 c = omega (arith, link-within _ _ _ _ _ (c .before .before .before .before .before .before .before .before .before .before .before .before .before .before .before .before .before .before .before .before .before .way-at .ensures) (c .before .before .before .before .before .before .before .before .before .before .before .before .before .before .before .before .before .before .before .link .given .1 ∙ ap Along (c .before .before .before .before .before .before .before .before .before .before .before .before .before .before .before .before .link3 .given .1)))
+mul-t78 : tie.Need-mul-t78 Inv-loop μ-loop
+mul-t78 c = omega (arith, link-within _ _ _ _ _ (c .before .before .before .before .before .before .before .before .before .before .before .before .before .before .before .before .before .before .before .before .before .way-at .ensures) (c .before .before .before .before .before .before .before .before .before .before .before .before .before .before .before .before .before .before .before .link .given .1 ∙ ap Along (c .before .before .before .before .before .before .before .before .before .before .before .before .before .before .before .before .link3 .given .1)))
 
-element-set-from-sender-2 : tie.Need-element-set-from-sender-2 Inv-loop μ-loop
-element-set-from-sender-2 c = omega (arith, link-within _ _ _ _ _ (c .before .before .before .before .before .before .before .before .before .before .before .before .before .before .before .before .before .before .before .before .before .way-at .ensures) (c .before .before .before .before .before .before .before .before .before .before .before .before .before .before .before .before .before .before .before .link .given .1 ∙ ap Along (c .before .before .before .before .before .before .before .before .before .before .before .before .before .before .before .before .link3 .given .1)))
+element-set-from-sender : tie.Need-element-set-from-sender Inv-loop μ-loop
+element-set-from-sender c = omega (arith, link-within _ _ _ _ _ (c .before .before .before .before .before .before .before .before .before .before .before .before .before .before .before .before .before .before .before .before .before .way-at .ensures) (c .before .before .before .before .before .before .before .before .before .before .before .before .before .before .before .before .before .before .before .link .given .1 ∙ ap Along (c .before .before .before .before .before .before .before .before .before .before .before .before .before .before .before .before .link3 .given .1)))
 
-mul-t73-2 : tie.Need-mul-t73-2 Inv-loop μ-loop
-mul-t73-2 c = omega (arith, link-within _ _ _ _ _ (c .before .before .before .before .before .before .before .before .before .before .before .before .before .before .before .before .before .before .before .before .before .way-at .ensures) (c .before .before .before .before .before .before .before .before .before .before .before .before .before .before .before .before .before .before .before .link .given .1 ∙ ap Along (c .before .before .before .before .before .before .before .before .before .before .before .before .before .before .before .before .link3 .given .1)))
+mul-t78-2 : tie.Need-mul-t78-2 Inv-loop μ-loop
+mul-t78-2 c = omega (arith, link-within _ _ _ _ _ (c .before .before .before .before .before .before .before .before .before .before .before .before .before .before .before .before .before .before .before .before .before .way-at .ensures) (c .before .before .before .before .before .before .before .before .before .before .before .before .before .before .before .before .before .before .before .link .given .1 ∙ ap Along (c .before .before .before .before .before .before .before .before .before .before .before .before .before .before .before .before .link3 .given .1)))
 
-element-set-from-s-2 : tie.Need-element-set-from-s-2 Inv-loop μ-loop
-element-set-from-s-2 c = omega (arith, link-within _ _ _ _ _ (c .before .before .before .before .before .before .before .before .before .before .before .before .before .before .before .before .before .before .before .before .before .way-at .ensures) (c .before .before .before .before .before .before .before .before .before .before .before .before .before .before .before .before .before .before .before .link .given .1 ∙ ap Along (c .before .before .before .before .before .before .before .before .before .before .before .before .before .before .before .before .link3 .given .1)))
+element-set-from-s : tie.Need-element-set-from-s Inv-loop μ-loop
+element-set-from-s c = omega (arith, link-within _ _ _ _ _ (c .before .before .before .before .before .before .before .before .before .before .before .before .before .before .before .before .before .before .before .before .before .way-at .ensures) (c .before .before .before .before .before .before .before .before .before .before .before .before .before .before .before .before .before .before .before .link .given .1 ∙ ap Along (c .before .before .before .before .before .before .before .before .before .before .before .before .before .before .before .before .link3 .given .1)))
 
 mul-task : tie.Need-mul-task Inv-loop μ-loop
 mul-task c = omega (arith, link-within _ _ _ _ _ (c .before .before .before .before .before .before .before .before .before .before .before .before .before .before .before .before .before .before .before .before .before .way-at .ensures) (c .before .before .before .before .before .before .before .before .before .before .before .before .before .before .before .before .before .before .before .link .given .1 ∙ ap Along (c .before .before .before .before .before .before .before .before .before .before .before .before .before .before .before .before .link3 .given .1)))
@@ -291,23 +294,23 @@ element-copy-out-receiver-3 : tie.Need-element-copy-out-receiver-3 Inv-loop μ-l
 element-copy-out-receiver-3 c = omega (arith, link-within _ _ _ _ _ (c .before .before .before .before .before .before .before .before .before .way-at .ensures) (c .before .before .before .before .before .before .before .link .given .1 ∙ ap Along (c .before .before .before .before .link4 .given .1)))
 
 mul-channel-3 : tie.Need-mul-channel-3 Inv-loop μ-loop
-mul-channel-3 c = omega (arith, link-within _ _ _ _ _ (c .before .before .before .before .before .before .before .before .before .before .way-at .ensures) (c .before .before .before .before .before .before .before .before .link .given .1 ∙ ap Along (c .before .before .before .before .before .link4 .given .1)))
+mul-channel-3 c = omega (arith, link-within _ _ _ _ _ (c .before .before .before .before .before .before .before .before .before .before .before .way-at .ensures) (c .before .before .before .before .before .before .before .before .before .link .given .1 ∙ ap Along (c .before .before .before .before .before .before .link4 .given .1)))
 
-element-copy-out-channel-3 : tie.Need-element-copy-out-channel-3 Inv-loop μ-loop
-element-copy-out-channel-3 c = omega (arith, link-within _ _ _ _ _ (c .before .before .before .before .before .before .before .before .before .before .way-at .ensures) (c .before .before .before .before .before .before .before .before .link .given .1 ∙ ap Along (c .before .before .before .before .before .link4 .given .1)))
+array-copy-out-channel-2 : tie.Need-array-copy-out-channel-2 Inv-loop μ-loop
+array-copy-out-channel-2 c = omega (arith, link-within _ _ _ _ _ (c .before .before .before .before .before .before .before .before .before .before .before .way-at .ensures) (c .before .before .before .before .before .before .before .before .before .link .given .1 ∙ ap Along (c .before .before .before .before .before .before .link4 .given .1)))
 
 stopped-requires-7 : tie.Need-stopped-requires-7 Inv-loop μ-loop
 stopped-requires-7 c κs = search needs
 
 same-length-7 : tie.Need-same-length-7 Inv-loop μ-loop
-same-length-7 c = c .before .before .before .before .before .before .before .before .before .before .before .before .before .before .before .before .loop .inv .1
+same-length-7 c = c .before .before .before .before .before .before .before .before .before .before .before .before .before .before .before .before .before .loop .inv .1
 
 returns-7 : tie.Need-returns-7 Inv-loop μ-loop
 returns-7 c =
-    let a = c .before .before .before .before .before .before .before .before .before .before .before .before .before .before .before .before .before .before .before .before .before .before .args in
-    let l = c .before .before .before .before .before .before .before .before .before .before .before .before .before .before .before .before .loop in
-    let e = to-task (a .moves .now) (a .vectors .now) (a .masks .now) (a .tasks) (a .gates) (l .s) (l .log) _ (c .before .before .before .before .before .before .before .before .before .before .before .before .before .before .way-at .result) (c .before .before .before .before .before .before .before .before .before .before .before .before .before .before .way-at .ensures) _ _ (c .before .before .before .before .before .before .before .before .before .before .before .before .link .given .1 ∙ ap Along (c .before .before .before .before .before .before .before .before .before .link4 .given .1)) in
-    let h = ends-refused (steppedBy (a .moves .now) (a .vectors .now) (a .masks .now) (a .tasks) (a .gates)) (a .file .now) (begun (a .t6) (a .log .now)) (l .s) (l .log) (l .i) (l .inv .2) ChannelEmpty refl (e ∙ rw (eq-eqb _ _ (c .before .if6 .taken))) (a .count) (c .before .before .before .before .before .before .before .before .before .before .before .before .before .before .before .loop-test .taken) in
+    let a = c .before .before .before .before .before .before .before .before .before .before .before .before .before .before .before .before .before .before .before .before .before .before .before .args in
+    let l = c .before .before .before .before .before .before .before .before .before .before .before .before .before .before .before .before .before .loop in
+    let e = to-task (a .moves .now) (a .vectors .now) (a .masks .now) (a .tasks) (a .gates) (l .s) (l .log) _ (c .before .before .before .before .before .before .before .before .before .before .before .before .before .before .before .way-at .result) (c .before .before .before .before .before .before .before .before .before .before .before .before .before .before .before .way-at .ensures) _ _ (c .before .before .before .before .before .before .before .before .before .before .before .before .before .link .given .1 ∙ ap Along (c .before .before .before .before .before .before .before .before .before .before .link4 .given .1)) in
+    let h = ends-refused (steppedBy (a .moves .now) (a .vectors .now) (a .masks .now) (a .tasks) (a .gates)) (a .file .now) (begun (a .t6) (a .log .now)) (l .s) (l .log) (l .i) (l .inv .2) ChannelEmpty refl (e ∙ rw (eq-eqb _ _ (c .before .if6 .taken))) (a .count) (c .before .before .before .before .before .before .before .before .before .before .before .before .before .before .before .before .loop-test .taken) in
     (c .stopped7 .ensures ∙ ap ranOf (sym h), ap (λ (x : Course). x .log) (sym h))
 
 at-task-requires-2 : tie.Need-at-task-requires-2 Inv-loop μ-loop
@@ -317,14 +320,14 @@ stopped-requires-8 : tie.Need-stopped-requires-8 Inv-loop μ-loop
 stopped-requires-8 c κs = search needs
 
 same-length-8 : tie.Need-same-length-8 Inv-loop μ-loop
-same-length-8 c = c .before .before .before .before .before .before .before .before .before .before .before .before .before .before .before .before .before .before .before .loop .inv .1
+same-length-8 c = c .before .before .before .before .before .before .before .before .before .before .before .before .before .before .before .before .before .before .before .before .loop .inv .1
 
 returns-8 : tie.Need-returns-8 Inv-loop μ-loop
 returns-8 c =
-    let a = c .before .before .before .before .before .before .before .before .before .before .before .before .before .before .before .before .before .before .before .before .before .before .before .before .before .args in
-    let l = c .before .before .before .before .before .before .before .before .before .before .before .before .before .before .before .before .before .before .before .loop in
-    let e = to-task (a .moves .now) (a .vectors .now) (a .masks .now) (a .tasks) (a .gates) (l .s) (l .log) _ (c .before .before .before .before .before .before .before .before .before .before .before .before .before .before .before .before .before .way-at .result) (c .before .before .before .before .before .before .before .before .before .before .before .before .before .before .before .before .before .way-at .ensures) _ _ (c .before .before .before .before .before .before .before .before .before .before .before .before .before .before .before .link .given .1 ∙ ap Along (c .before .before .before .before .before .before .before .before .before .before .before .before .link4 .given .1)) in
-    let h = ends-refused (steppedBy (a .moves .now) (a .vectors .now) (a .masks .now) (a .tasks) (a .gates)) (a .file .now) (begun (a .t6) (a .log .now)) (l .s) (l .log) (l .i) (l .inv .2) Excluded refl (e ∙ rw (ne-eqb _ _ (c .before .before .before .before .if6 .left), ← c .before .before .before .at-task2 .ensures, c .before .if7 .taken)) (a .count) (c .before .before .before .before .before .before .before .before .before .before .before .before .before .before .before .before .before .before .loop-test .taken) in
+    let a = c .before .before .before .before .before .before .before .before .before .before .before .before .before .before .before .before .before .before .before .before .before .before .before .before .before .before .args in
+    let l = c .before .before .before .before .before .before .before .before .before .before .before .before .before .before .before .before .before .before .before .before .loop in
+    let e = to-task (a .moves .now) (a .vectors .now) (a .masks .now) (a .tasks) (a .gates) (l .s) (l .log) _ (c .before .before .before .before .before .before .before .before .before .before .before .before .before .before .before .before .before .before .way-at .result) (c .before .before .before .before .before .before .before .before .before .before .before .before .before .before .before .before .before .before .way-at .ensures) _ _ (c .before .before .before .before .before .before .before .before .before .before .before .before .before .before .before .before .link .given .1 ∙ ap Along (c .before .before .before .before .before .before .before .before .before .before .before .before .before .link4 .given .1)) in
+    let h = ends-refused (steppedBy (a .moves .now) (a .vectors .now) (a .masks .now) (a .tasks) (a .gates)) (a .file .now) (begun (a .t6) (a .log .now)) (l .s) (l .log) (l .i) (l .inv .2) Excluded refl (e ∙ rw (ne-eqb _ _ (c .before .before .before .before .if6 .left), ← c .before .before .before .at-task2 .ensures, c .before .if7 .taken)) (a .count) (c .before .before .before .before .before .before .before .before .before .before .before .before .before .before .before .before .before .before .before .loop-test .taken) in
     (c .stopped8 .ensures ∙ ap ranOf (sym h), ap (λ (x : Course). x .log) (sym h))
 
 is-full-requires-2 : tie.Need-is-full-requires-2 Inv-loop μ-loop
@@ -334,62 +337,65 @@ stopped-requires-9 : tie.Need-stopped-requires-9 Inv-loop μ-loop
 stopped-requires-9 c κs = search needs
 
 same-length-9 : tie.Need-same-length-9 Inv-loop μ-loop
-same-length-9 c = c .before .before .before .before .before .before .before .before .before .before .before .before .before .before .before .before .before .before .before .before .before .loop .inv .1
+same-length-9 c = c .before .before .before .before .before .before .before .before .before .before .before .before .before .before .before .before .before .before .before .before .before .before .loop .inv .1
 
 returns-9 : tie.Need-returns-9 Inv-loop μ-loop
 returns-9 c =
-    let a = c .before .before .before .before .before .before .before .before .before .before .before .before .before .before .before .before .before .before .before .before .before .before .before .before .before .before .before .args in
-    let l = c .before .before .before .before .before .before .before .before .before .before .before .before .before .before .before .before .before .before .before .before .before .loop in
-    let e = to-task (a .moves .now) (a .vectors .now) (a .masks .now) (a .tasks) (a .gates) (l .s) (l .log) _ (c .before .before .before .before .before .before .before .before .before .before .before .before .before .before .before .before .before .before .before .way-at .result) (c .before .before .before .before .before .before .before .before .before .before .before .before .before .before .before .before .before .before .before .way-at .ensures) _ _ (c .before .before .before .before .before .before .before .before .before .before .before .before .before .before .before .before .before .link .given .1 ∙ ap Along (c .before .before .before .before .before .before .before .before .before .before .before .before .before .before .link4 .given .1)) in
+    let a = c .before .before .before .before .before .before .before .before .before .before .before .before .before .before .before .before .before .before .before .before .before .before .before .before .before .before .before .before .args in
+    let l = c .before .before .before .before .before .before .before .before .before .before .before .before .before .before .before .before .before .before .before .before .before .before .loop in
+    let e = to-task (a .moves .now) (a .vectors .now) (a .masks .now) (a .tasks) (a .gates) (l .s) (l .log) _ (c .before .before .before .before .before .before .before .before .before .before .before .before .before .before .before .before .before .before .before .before .way-at .result) (c .before .before .before .before .before .before .before .before .before .before .before .before .before .before .before .before .before .before .before .before .way-at .ensures) _ _ (c .before .before .before .before .before .before .before .before .before .before .before .before .before .before .before .before .before .before .link .given .1 ∙ ap Along (c .before .before .before .before .before .before .before .before .before .before .before .before .before .before .before .link4 .given .1)) in
     let full = sym (c .before .before .is-full2 .ensures) ∙ c .before .if8 .taken in
-    let h = ends-refused (steppedBy (a .moves .now) (a .vectors .now) (a .masks .now) (a .tasks) (a .gates)) (a .file .now) (begun (a .t6) (a .log .now)) (l .s) (l .log) (l .i) (l .inv .2) LogFull refl (e ∙ rw (ne-eqb _ _ (c .before .before .before .before .before .before .if6 .left), ← c .before .before .before .before .before .at-task2 .ensures, c .before .before .before .if7 .left, full)) (a .count) (c .before .before .before .before .before .before .before .before .before .before .before .before .before .before .before .before .before .before .before .before .loop-test .taken) in
+    let h = ends-refused (steppedBy (a .moves .now) (a .vectors .now) (a .masks .now) (a .tasks) (a .gates)) (a .file .now) (begun (a .t6) (a .log .now)) (l .s) (l .log) (l .i) (l .inv .2) LogFull refl (e ∙ rw (ne-eqb _ _ (c .before .before .before .before .before .before .if6 .left), ← c .before .before .before .before .before .at-task2 .ensures, c .before .before .before .if7 .left, full)) (a .count) (c .before .before .before .before .before .before .before .before .before .before .before .before .before .before .before .before .before .before .before .before .before .loop-test .taken) in
     (c .stopped9 .ensures ∙ ap ranOf (sym h), ap (λ (x : Course). x .log) (sym h))
 
 empty-requires-2 : tie.Need-empty-requires-2 Inv-loop μ-loop
 empty-requires-2 c κs = search needs
 
-mul-t101 : tie.Need-mul-t101 Inv-loop μ-loop
-mul-t101 c = omega (arith, link-within _ _ _ _ _ (c .before .before .before .before .before .before .before .before .before .before .before .before .before .before .before .before .before .before .before .before .before .way-at .ensures) (c .before .before .before .before .before .before .before .before .before .before .before .before .before .before .before .before .before .before .before .link .given .1 ∙ ap Along (c .before .before .before .before .before .before .before .before .before .before .before .before .before .before .before .before .link4 .given .1)))
+mul-across : tie.Need-mul-across Inv-loop μ-loop
+mul-across c = omega (arith, link-within _ _ _ _ _ (c .before .before .before .before .before .before .before .before .before .before .before .before .before .before .before .before .before .before .before .before .before .before .way-at .ensures) (c .before .before .before .before .before .before .before .before .before .before .before .before .before .before .before .before .before .before .before .before .link .given .1 ∙ ap Along (c .before .before .before .before .before .before .before .before .before .before .before .before .before .before .before .before .before .link4 .given .1)))
 
-element-set-from-sender-3 : tie.Need-element-set-from-sender-3 Inv-loop μ-loop
-element-set-from-sender-3 c = omega (arith, link-within _ _ _ _ _ (c .before .before .before .before .before .before .before .before .before .before .before .before .before .before .before .before .before .before .before .before .before .way-at .ensures) (c .before .before .before .before .before .before .before .before .before .before .before .before .before .before .before .before .before .before .before .link .given .1 ∙ ap Along (c .before .before .before .before .before .before .before .before .before .before .before .before .before .before .before .before .link4 .given .1)))
+array-set-from-across : tie.Need-array-set-from-across Inv-loop μ-loop
+array-set-from-across c = omega (arith, link-within _ _ _ _ _ (c .before .before .before .before .before .before .before .before .before .before .before .before .before .before .before .before .before .before .before .before .before .before .way-at .ensures) (c .before .before .before .before .before .before .before .before .before .before .before .before .before .before .before .before .before .before .before .before .link .given .1 ∙ ap Along (c .before .before .before .before .before .before .before .before .before .before .before .before .before .before .before .before .before .link4 .given .1)))
 
-mul-t101-2 : tie.Need-mul-t101-2 Inv-loop μ-loop
-mul-t101-2 c = omega (arith, link-within _ _ _ _ _ (c .before .before .before .before .before .before .before .before .before .before .before .before .before .before .before .before .before .before .before .before .before .way-at .ensures) (c .before .before .before .before .before .before .before .before .before .before .before .before .before .before .before .before .before .before .before .link .given .1 ∙ ap Along (c .before .before .before .before .before .before .before .before .before .before .before .before .before .before .before .before .link4 .given .1)))
+with-all-across-requires : tie.Need-with-all-across-requires Inv-loop μ-loop
+with-all-across-requires c κs = search needs
 
-element-set-from-s-3 : tie.Need-element-set-from-s-3 Inv-loop μ-loop
-element-set-from-s-3 c = omega (arith, link-within _ _ _ _ _ (c .before .before .before .before .before .before .before .before .before .before .before .before .before .before .before .before .before .before .before .before .before .way-at .ensures) (c .before .before .before .before .before .before .before .before .before .before .before .before .before .before .before .before .before .before .before .link .given .1 ∙ ap Along (c .before .before .before .before .before .before .before .before .before .before .before .before .before .before .before .before .link4 .given .1)))
+mul-popped-2 : tie.Need-mul-popped-2 Inv-loop μ-loop
+mul-popped-2 c = omega (arith, link-within _ _ _ _ _ (c .before .before .before .before .before .before .before .before .before .before .before .before .before .before .before .before .before .before .before .before .before .before .before .way-at .ensures) (c .before .before .before .before .before .before .before .before .before .before .before .before .before .before .before .before .before .before .before .before .before .link .given .1 ∙ ap Along (c .before .before .before .before .before .before .before .before .before .before .before .before .before .before .before .before .before .before .link4 .given .1)))
+
+element-set-from-popped-2 : tie.Need-element-set-from-popped-2 Inv-loop μ-loop
+element-set-from-popped-2 c = omega (arith, link-within _ _ _ _ _ (c .before .before .before .before .before .before .before .before .before .before .before .before .before .before .before .before .before .before .before .before .before .before .before .way-at .ensures) (c .before .before .before .before .before .before .before .before .before .before .before .before .before .before .before .before .before .before .before .before .before .link .given .1 ∙ ap Along (c .before .before .before .before .before .before .before .before .before .before .before .before .before .before .before .before .before .before .link4 .given .1)))
 
 mul-task-2 : tie.Need-mul-task-2 Inv-loop μ-loop
-mul-task-2 c = omega (arith, link-within _ _ _ _ _ (c .before .before .before .before .before .before .before .before .before .before .before .before .before .before .before .before .before .before .before .before .before .way-at .ensures) (c .before .before .before .before .before .before .before .before .before .before .before .before .before .before .before .before .before .before .before .link .given .1 ∙ ap Along (c .before .before .before .before .before .before .before .before .before .before .before .before .before .before .before .before .link4 .given .1)))
+mul-task-2 c = omega (arith, link-within _ _ _ _ _ (c .before .before .before .before .before .before .before .before .before .before .before .before .before .before .before .before .before .before .before .before .before .before .before .way-at .ensures) (c .before .before .before .before .before .before .before .before .before .before .before .before .before .before .before .before .before .before .before .before .before .link .given .1 ∙ ap Along (c .before .before .before .before .before .before .before .before .before .before .before .before .before .before .before .before .before .before .link4 .given .1)))
 
 element-set-from-task-2 : tie.Need-element-set-from-task-2 Inv-loop μ-loop
-element-set-from-task-2 c = omega (arith, link-within _ _ _ _ _ (c .before .before .before .before .before .before .before .before .before .before .before .before .before .before .before .before .before .before .before .before .before .way-at .ensures) (c .before .before .before .before .before .before .before .before .before .before .before .before .before .before .before .before .before .before .before .link .given .1 ∙ ap Along (c .before .before .before .before .before .before .before .before .before .before .before .before .before .before .before .before .link4 .given .1)))
+element-set-from-task-2 c = omega (arith, link-within _ _ _ _ _ (c .before .before .before .before .before .before .before .before .before .before .before .before .before .before .before .before .before .before .before .before .before .before .before .way-at .ensures) (c .before .before .before .before .before .before .before .before .before .before .before .before .before .before .before .before .before .before .before .before .before .link .given .1 ∙ ap Along (c .before .before .before .before .before .before .before .before .before .before .before .before .before .before .before .before .before .before .link4 .given .1)))
 
 counted-requires-2 : tie.Need-counted-requires-2 Inv-loop μ-loop
-counted-requires-2 c κs = ltb-false _ _ (sym (c .before .before .before .before .is-full2 .ensures) ∙ c .before .before .before .if8 .left)
+counted-requires-2 c κs = ltb-false _ _ (sym (c .before .before .before .before .before .is-full2 .ensures) ∙ c .before .before .before .before .if8 .left)
 
 write-requires-2 : tie.Need-write-requires-2 Inv-loop μ-loop
 write-requires-2 c κs = search needs
 
 add-i-3 : tie.Need-add-i-3 Inv-loop μ-loop
 add-i-3 c =
-    let l = c .before .before .before .before .before .before .before .before .before .before .before .before .before .before .before .before .before .before .before .before .before .before .before .before .before .before .before .loop-test .taken in
-    let f = c .before .before .before .before .before .before .before .before .before .before .before .before .before .before .before .before .before .before .before .before .before .before .before .before .before .before .before .before .before .before .before .before .before .before .fits .count .fits in
+    let l = c .before .before .before .before .before .before .before .before .before .before .before .before .before .before .before .before .before .before .before .before .before .before .before .before .before .before .before .before .before .loop-test .taken in
+    let f = c .before .before .before .before .before .before .before .before .before .before .before .before .before .before .before .before .before .before .before .before .before .before .before .before .before .before .before .before .before .before .before .before .before .before .before .before .fits .count .fits in
     omega arith
 
 loop-less-3 : tie.Need-loop-less-3 Inv-loop μ-loop
-loop-less-3 c = let t = c .before .before .before .before .before .before .before .before .before .before .before .before .before .before .before .before .before .before .before .before .before .before .before .before .before .before .before .loop-test .taken in omega arith
+loop-less-3 c = let t = c .before .before .before .before .before .before .before .before .before .before .before .before .before .before .before .before .before .before .before .before .before .before .before .before .before .before .before .before .before .loop-test .taken in omega arith
 
 loop-again-3 : tie.Need-loop-again-3 Inv-loop μ-loop
 loop-again-3 c =
-    let a = c .before .before .before .before .before .before .before .before .before .before .before .before .before .before .before .before .before .before .before .before .before .before .before .before .before .before .before .before .before .before .before .before .before .before .args in
-    let l = c .before .before .before .before .before .before .before .before .before .before .before .before .before .before .before .before .before .before .before .before .before .before .before .before .before .before .before .before .loop in
-    let t = c .before .before .before .before .before .before .before .before .before .before .before .before .before .before .before .before .before .before .before .before .before .before .before .before .before .before .before .loop-test .taken in
-    let e = to-task (a .moves .now) (a .vectors .now) (a .masks .now) (a .tasks) (a .gates) (l .s) (l .log) _ (c .before .before .before .before .before .before .before .before .before .before .before .before .before .before .before .before .before .before .before .before .before .before .before .before .before .before .way-at .result) (c .before .before .before .before .before .before .before .before .before .before .before .before .before .before .before .before .before .before .before .before .before .before .before .before .before .before .way-at .ensures) _ _ (c .before .before .before .before .before .before .before .before .before .before .before .before .before .before .before .before .before .before .before .before .before .before .before .before .link .given .1 ∙ ap Along (c .before .before .before .before .before .before .before .before .before .before .before .before .before .before .before .before .before .before .before .before .before .link4 .given .1)) in
-    let full = sym (c .before .before .before .before .before .before .before .before .before .is-full2 .ensures) ∙ c .before .before .before .before .before .before .before .before .if8 .left in
-    let h = turn-done (steppedBy (a .moves .now) (a .vectors .now) (a .masks .now) (a .tasks) (a .gates)) (a .file .now) (begun (a .t6) (a .log .now)) (l .s) (l .log) (l .i) (l .inv .2) _ _ (rw (ne-eqb _ _ (c .before .before .before .before .before .before .before .before .before .before .before .before .before .if6 .left), ← c .before .before .before .before .before .before .before .before .before .before .before .before .at-task2 .ensures, c .before .before .before .before .before .before .before .before .before .before .if7 .left, full) at e) in
-    (omega arith, ap length (c .before .before .write2 .ensures) ∙ written-length (l .s .logged) (c .before .before .before .before .before .before .before .before .before .before .before .before .at-task2 .result) (l .log) ∙ l .inv .1, rw (c .before .before .write2 .ensures, c .before .before .before .before .counted2 .ensures, c .before .before .before .before .before .empty2 .ensures) h)
+    let a = c .before .before .before .before .before .before .before .before .before .before .before .before .before .before .before .before .before .before .before .before .before .before .before .before .before .before .before .before .before .before .before .before .before .before .before .before .args in
+    let l = c .before .before .before .before .before .before .before .before .before .before .before .before .before .before .before .before .before .before .before .before .before .before .before .before .before .before .before .before .before .before .loop in
+    let t = c .before .before .before .before .before .before .before .before .before .before .before .before .before .before .before .before .before .before .before .before .before .before .before .before .before .before .before .before .before .loop-test .taken in
+    let e = to-task (a .moves .now) (a .vectors .now) (a .masks .now) (a .tasks) (a .gates) (l .s) (l .log) _ (c .before .before .before .before .before .before .before .before .before .before .before .before .before .before .before .before .before .before .before .before .before .before .before .before .before .before .before .before .way-at .result) (c .before .before .before .before .before .before .before .before .before .before .before .before .before .before .before .before .before .before .before .before .before .before .before .before .before .before .before .before .way-at .ensures) _ _ (c .before .before .before .before .before .before .before .before .before .before .before .before .before .before .before .before .before .before .before .before .before .before .before .before .before .before .link .given .1 ∙ ap Along (c .before .before .before .before .before .before .before .before .before .before .before .before .before .before .before .before .before .before .before .before .before .before .before .link4 .given .1)) in
+    let full = sym (c .before .before .before .before .before .before .before .before .before .before .is-full2 .ensures) ∙ c .before .before .before .before .before .before .before .before .before .if8 .left in
+    let h = turn-done (steppedBy (a .moves .now) (a .vectors .now) (a .masks .now) (a .tasks) (a .gates)) (a .file .now) (begun (a .t6) (a .log .now)) (l .s) (l .log) (l .i) (l .inv .2) _ _ (rw (ne-eqb _ _ (c .before .before .before .before .before .before .before .before .before .before .before .before .before .before .if6 .left), ← c .before .before .before .before .before .before .before .before .before .before .before .before .before .at-task2 .ensures, c .before .before .before .before .before .before .before .before .before .before .before .if7 .left, full) at e) in
+    (omega arith, ap length (c .before .before .write2 .ensures) ∙ written-length (l .s .logged) (c .before .before .before .before .before .before .before .before .before .before .before .before .before .at-task2 .result) (l .log) ∙ l .inv .1, rw (c .before .before .write2 .ensures, c .before .before .before .before .counted2 .ensures, c .before .before .before .before .before .with-all-across .ensures, c .before .before .before .before .before .before .empty2 .ensures) h)
 
 same-length-10 : tie.Need-same-length-10 Inv-loop μ-loop
 same-length-10 c = search needs
@@ -422,7 +428,7 @@ run-spec =
     mul-receiver
     element-copy-out-receiver
     mul-channel
-    element-copy-out-channel
+    array-copy-out-channel
     stopped-requires-2
     same-length-2
     returns-2
@@ -432,10 +438,11 @@ run-spec =
     same-length-3
     returns-3
     popped-requires
-    mul-t52
-    element-set-from-sender
-    mul-t52-2
-    element-set-from-s
+    mul-up
+    array-set-from-up
+    with-all-up-requires
+    mul-popped
+    element-set-from-popped
     mul-gate
     element-set-from-gate
     add-i
@@ -449,7 +456,7 @@ run-spec =
     mul-receiver-2
     element-copy-out-receiver-2
     mul-channel-2
-    element-copy-out-channel-2
+    element-copy-out-channel
     stopped-requires-4
     same-length-4
     returns-4
@@ -462,10 +469,10 @@ run-spec =
     same-length-6
     returns-6
     empty-requires
-    mul-t73
-    element-set-from-sender-2
-    mul-t73-2
-    element-set-from-s-2
+    mul-t78
+    element-set-from-sender
+    mul-t78-2
+    element-set-from-s
     mul-task
     element-set-from-task
     counted-requires
@@ -481,7 +488,7 @@ run-spec =
     mul-receiver-3
     element-copy-out-receiver-3
     mul-channel-3
-    element-copy-out-channel-3
+    array-copy-out-channel-2
     stopped-requires-7
     same-length-7
     returns-7
@@ -494,10 +501,11 @@ run-spec =
     same-length-9
     returns-9
     empty-requires-2
-    mul-t101
-    element-set-from-sender-3
-    mul-t101-2
-    element-set-from-s-3
+    mul-across
+    array-set-from-across
+    with-all-across-requires
+    mul-popped-2
+    element-set-from-popped-2
     mul-task-2
     element-set-from-task-2
     counted-requires-2

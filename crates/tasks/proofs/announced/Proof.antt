@@ -1,21 +1,22 @@
--- `announced` meets its contract: the task is as after the gates so far; from 16 on it is not ready.
+-- `announced` meets its contract: what the task has sent is as after the gates so far; from 16 on it is not ready.
+use borrow.Author.Needs.{needs}
+use Rattle.tasks.proofs.announced.Statement.{statement}
+use Rattle.tasks.proofs.announced.Tie as tie
 use Prim.Native.Nat.{_-_, _≤_}
 use mathlib.Core.Logic.{⊎-elim}
 use mathlib.Core.Path.{_≡_, _∙_}
 use native.Mathlib.Omega.{arith}
-use borrow.Author.Needs.{needs}
 use Rattle.laws.proofs.Turning.{turn-more}
 use Rattle.laws.specs.Turns.{upTo}
 use Rattle.table.proofs.Cells.{not-ready}
-use Rattle.tasks.specs.Tasks.{with, announcedAt, announced}
-use Rattle.tasks.proofs.announced.Statement.{statement}
-use Rattle.tasks.proofs.announced.Tie as tie
+use Rattle.tasks.specs.Parts.{announcedUpAt, announcedUp}
+use Rattle.tasks.specs.declared.Outgoing.{Outgoing}
 
 abbrev Inv-loop : tie.InvT-loop
-Inv-loop moves gates number w task₀ ok₀ state g₀ task ok g = (g ≤ gates) × (with w task ok ≡ upTo (announcedAt moves gates (number .0) (w .task .state)) g w)
+Inv-loop moves gates number state up₀ ok₀ g₀ up ok g = (g ≤ gates) × (_≡_ {A = Outgoing} (record { up = up; ok = ok }) (upTo (announcedUpAt moves (number .0) state) g (record { up = up₀; ok = ok₀ })))
 
 abbrev μ-loop : tie.MeasureT-loop
-μ-loop moves gates number w task₀ ok₀ state g₀ task ok g = gates - g
+μ-loop moves gates number state up₀ ok₀ g₀ up ok g = gates - g
 
 loop-holds : tie.Need-loop-holds Inv-loop μ-loop
 loop-holds c = (search needs, search needs)
@@ -26,8 +27,8 @@ cast-i c = search needs
 mul-channel : tie.Need-mul-channel Inv-loop μ-loop
 mul-channel c = search needs
 
-element-copy-out-channel : tie.Need-element-copy-out-channel Inv-loop μ-loop
-element-copy-out-channel c = search needs
+array-copy-out-channel : tie.Need-array-copy-out-channel Inv-loop μ-loop
+array-copy-out-channel c = search needs
 
 is-due-requires : tie.Need-is-due-requires Inv-loop μ-loop
 is-due-requires c κs = search needs
@@ -35,11 +36,11 @@ is-due-requires c κs = search needs
 put-requires : tie.Need-put-requires Inv-loop μ-loop
 put-requires c κs = search needs
 
-mul-longer : tie.Need-mul-longer Inv-loop μ-loop
-mul-longer c = search needs
+mul-up : tie.Need-mul-up Inv-loop μ-loop
+mul-up c = search needs
 
-element-set-from-longer : tie.Need-element-set-from-longer Inv-loop μ-loop
-element-set-from-longer c = search needs
+array-set-from-up : tie.Need-array-set-from-up Inv-loop μ-loop
+array-set-from-up c = search needs
 
 add-g : tie.Need-add-g Inv-loop μ-loop
 add-g c = search needs
@@ -61,19 +62,16 @@ loop-again c = (
         w .2,
         not-ready (c .before .before .before .before .before .args .moves .now)
             (c .before .before .before .before .before .args .number .0)
-            (c .before .before .before .before .before .args .w .task .state) (c .before .before .loop .g)
+            (c .before .before .before .before .before .args .state) (c .before .before .loop .g)
             (w .0 .left),
       )) v) (c .if1 .came)),
 )
 
-with-requires : tie.Need-with-requires Inv-loop μ-loop
-with-requires c κs = search needs
-
 returns : tie.Need-returns Inv-loop μ-loop
-unfolding announced
+unfolding announcedUp
 returns c =
-    let e : c .before .before .loop .g ≡ c .before .before .before .before .before .args .gates = omega arith in
-    c .with .ensures ∙ c .before .before .loop .inv .1 ∙ rw e
+    let e : c .before .loop .g ≡ c .before .before .before .before .args .gates = omega arith in
+    c .before .loop .inv .1 ∙ rw e
 
 pub announced-spec : {M : Type 1} → statement M
 announced-spec =
@@ -84,13 +82,12 @@ announced-spec =
     loop-holds
     cast-i
     mul-channel
-    element-copy-out-channel
+    array-copy-out-channel
     is-due-requires
     put-requires
-    mul-longer
-    element-set-from-longer
+    mul-up
+    array-set-from-up
     add-g
     loop-less
     loop-again
-    with-requires
     returns)

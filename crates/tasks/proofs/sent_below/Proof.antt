@@ -1,21 +1,22 @@
 -- `sent_below` meets its contract: the task is as after the lower tasks so far; from 16 on there is no member.
+use borrow.Author.Needs.{needs}
+use Rattle.tasks.proofs.sent_below.Statement.{statement}
+use Rattle.tasks.proofs.sent_below.Tie as tie
 use Prim.Native.Nat.{_-_, _≤_}
 use mathlib.Core.Logic.{⊎-elim}
 use mathlib.Core.Path.{_≡_, _∙_}
 use native.Mathlib.Omega.{arith}
-use borrow.Author.Needs.{needs}
 use Rattle.laws.proofs.Turning.{turn-more}
 use Rattle.laws.specs.Turns.{upTo}
 use Rattle.sets.proofs.Members.{no-member}
+use Rattle.state.specs.States.{withAllAcross}
 use Rattle.tasks.specs.Tasks.{with, sentAt, sentBelow}
-use Rattle.tasks.proofs.sent_below.Statement.{statement}
-use Rattle.tasks.proofs.sent_below.Tie as tie
 
 abbrev Inv-loop : tie.InvT-loop
-Inv-loop number mask message w task₀ ok₀ y₀ task ok y = (y ≤ number .0) × (with w task ok ≡ upTo (sentAt mask message) y w)
+Inv-loop number mask message w task across₀ ok₀ y₀ across ok y = (y ≤ number .0) × (with w (withAllAcross task across) ok ≡ upTo (sentAt mask message) y w)
 
 abbrev μ-loop : tie.MeasureT-loop
-μ-loop number mask message w task₀ ok₀ y₀ task ok y = number .0 - y
+μ-loop number mask message w task across₀ ok₀ y₀ across ok y = number .0 - y
 
 loop-holds : tie.Need-loop-holds Inv-loop μ-loop
 loop-holds c = (search needs, search needs)
@@ -26,8 +27,8 @@ cast-i c = search needs
 mul-channel : tie.Need-mul-channel Inv-loop μ-loop
 mul-channel c = search needs
 
-element-copy-out-channel : tie.Need-element-copy-out-channel Inv-loop μ-loop
-element-copy-out-channel c = search needs
+array-copy-out-channel : tie.Need-array-copy-out-channel Inv-loop μ-loop
+array-copy-out-channel c = search needs
 
 member-requires : tie.Need-member-requires Inv-loop μ-loop
 member-requires c κs = search needs
@@ -35,11 +36,11 @@ member-requires c κs = search needs
 put-requires : tie.Need-put-requires Inv-loop μ-loop
 put-requires c κs = search needs
 
-mul-longer : tie.Need-mul-longer Inv-loop μ-loop
-mul-longer c = search needs
+mul-across : tie.Need-mul-across Inv-loop μ-loop
+mul-across c = search needs
 
-element-set-from-longer : tie.Need-element-set-from-longer Inv-loop μ-loop
-element-set-from-longer c = search needs
+array-set-from-across : tie.Need-array-set-from-across Inv-loop μ-loop
+array-set-from-across c = search needs
 
 add-y : tie.Need-add-y Inv-loop μ-loop
 add-y c = search needs
@@ -59,10 +60,13 @@ loop-again c = (
       (λ w. rw (
         w .1,
         w .2,
-        no-member 16 (c .before .before .before .before .before .args .mask)
+        no-member 16 (c .before .before .before .before .before .before .args .mask)
             (c .before .before .before .loop .y) (search needs) (w .0 .left),
       )) v) (c .if2 .came)),
 )
+
+with-all-across-requires : tie.Need-with-all-across-requires Inv-loop μ-loop
+with-all-across-requires c κs = search needs
 
 with-requires : tie.Need-with-requires Inv-loop μ-loop
 with-requires c κs = search needs
@@ -70,9 +74,8 @@ with-requires c κs = search needs
 returns : tie.Need-returns Inv-loop μ-loop
 unfolding sentBelow
 returns c =
-    let e : c .before .before .before .loop .y ≡ c .before .before .before .before .before .args .number .0 =
-    omega arith in
-    c .with .ensures ∙ c .before .before .before .loop .inv .1 ∙ rw e
+    let e : c .before .before .before .before .loop .y ≡ c .before .before .before .before .before .before .before .args .number .0 = omega arith in
+    rw (c .with .ensures, c .before .with-all-across .ensures) (c .before .before .before .before .loop .inv .1 ∙ rw e)
 
 pub sent-below-spec : {M : Type 1} → statement M
 sent-below-spec =
@@ -83,13 +86,14 @@ sent-below-spec =
     loop-holds
     cast-i
     mul-channel
-    element-copy-out-channel
+    array-copy-out-channel
     member-requires
     put-requires
-    mul-longer
-    element-set-from-longer
+    mul-across
+    array-set-from-across
     add-y
     loop-less
     loop-again
+    with-all-across-requires
     with-requires
     returns)

@@ -1,10 +1,10 @@
 -- `pop_up` meets its contract; outside the 16 gates the channel is empty and the store falls outside.
-use lib.ListN.{length-map}
 use borrow.Author.Needs.{needs}
-use Rattle.channels.specs.Channels.{empty3}
-use Rattle.state.proofs.Outside.{outside}
 use Rattle.state.proofs.Task.pop_up.Statement.{statement}
 use Rattle.state.proofs.Task.pop_up.Tie as tie
+use lib.ListN.{length-map}
+use Rattle.channels.specs.Channels.{empty3}
+use Rattle.state.proofs.Outside.{outside}
 
 cast-i : tie.Need-cast-i
 cast-i c = search needs
@@ -12,8 +12,8 @@ cast-i c = search needs
 mul-channel : tie.Need-mul-channel
 mul-channel c = search needs
 
-element-copy-out-channel : tie.Need-element-copy-out-channel
-element-copy-out-channel c = search needs
+array-copy-out-channel : tie.Need-array-copy-out-channel
+array-copy-out-channel c = search needs
 
 front-of-requires : tie.Need-front-of-requires
 front-of-requires c κs = search needs
@@ -21,20 +21,23 @@ front-of-requires c κs = search needs
 popped-requires : tie.Need-popped-requires
 popped-requires c κs = search needs
 
-mul-rest : tie.Need-mul-rest
-mul-rest c = search needs
+mul-up : tie.Need-mul-up
+mul-up c = search needs
 
-element-set-from-rest : tie.Need-element-set-from-rest
-element-set-from-rest c = search needs
+array-set-from-up : tie.Need-array-set-from-up
+array-set-from-up c = search needs
+
+with-all-up-requires : tie.Need-with-all-up-requires
+with-all-up-requires c κs = search needs
 
 returns : tie.Need-returns
-returns c = rw (c .popped .ensures, c .before .front-of .ensures)
+returns c = rw (c .with-all-up .ensures, c .before .popped .ensures, c .before .before .front-of .ensures)
 
 returns-2 : tie.Need-returns-2
 returns-2 c =
     let a = c .before .before in
     let e = simp length-map at (a .good .0 .1 .1 .1 .1 .1 .1 .0 .1 .0 .1) in
-    let o = outside (a .args .t1 .up) (a .args .gate .0) empty3 16 e (c .if1 .left) in
+    let o = outside (a .args .self .up) (a .args .gate .0) empty3 16 e (c .if1 .left) in
     rw (o .read, o .kept)
 
 pub pop-up-spec : {M : Type 1} → statement M
@@ -43,10 +46,11 @@ pop-up-spec =
     (tie.spec
     cast-i
     mul-channel
-    element-copy-out-channel
+    array-copy-out-channel
     front-of-requires
     popped-requires
-    mul-rest
-    element-set-from-rest
+    mul-up
+    array-set-from-up
+    with-all-up-requires
     returns
     returns-2)

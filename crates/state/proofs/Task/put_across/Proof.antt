@@ -1,10 +1,10 @@
 -- `put_across` meets its contract; outside the 16 tasks the channel is empty and the store falls outside.
-use lib.ListN.{length-map}
 use borrow.Author.Needs.{needs}
-use Rattle.channels.specs.Channels.{empty1}
-use Rattle.state.proofs.Outside.{outside}
 use Rattle.state.proofs.Task.put_across.Statement.{statement}
 use Rattle.state.proofs.Task.put_across.Tie as tie
+use lib.ListN.{length-map}
+use Rattle.channels.specs.Channels.{empty1}
+use Rattle.state.proofs.Outside.{outside}
 
 cast-i : tie.Need-cast-i
 cast-i c = search needs
@@ -12,26 +12,29 @@ cast-i c = search needs
 mul-channel : tie.Need-mul-channel
 mul-channel c = search needs
 
-element-copy-out-channel : tie.Need-element-copy-out-channel
-element-copy-out-channel c = search needs
+array-copy-out-channel : tie.Need-array-copy-out-channel
+array-copy-out-channel c = search needs
 
 put-requires : tie.Need-put-requires
 put-requires c κs = search needs
 
-mul-longer : tie.Need-mul-longer
-mul-longer c = search needs
+mul-across : tie.Need-mul-across
+mul-across c = search needs
 
-element-set-from-longer : tie.Need-element-set-from-longer
-element-set-from-longer c = search needs
+array-set-from-across : tie.Need-array-set-from-across
+array-set-from-across c = search needs
+
+with-all-across-requires : tie.Need-with-all-across-requires
+with-all-across-requires c κs = search needs
 
 returns : tie.Need-returns
-returns c = rw (c .put .ensures)
+returns c = rw (c .with-all-across .ensures, c .before .put .ensures)
 
 returns-2 : tie.Need-returns-2
 returns-2 c =
     let a = c .before .before in
     let e = simp length-map at (a .good .0 .1 .1 .1 .1 .1 .1 .1 .0 .1 .0 .1) in
-    let o = outside (a .args .t1 .across) (a .args .task .0) empty1 16 e (c .if1 .left) in
+    let o = outside (a .args .self .across) (a .args .to .0) empty1 16 e (c .if1 .left) in
     rw (o .read, o .kept)
 
 pub put-across-spec : {M : Type 1} → statement M
@@ -40,9 +43,10 @@ put-across-spec =
     (tie.spec
     cast-i
     mul-channel
-    element-copy-out-channel
+    array-copy-out-channel
     put-requires
-    mul-longer
-    element-set-from-longer
+    mul-across
+    array-set-from-across
+    with-all-across-requires
     returns
     returns-2)
