@@ -1,6 +1,7 @@
 -- `to_task` meets its contract: what the pop took is at the front.
+use mathlib.Core.Path.{_≡_}
 use borrow.Author.Needs.{needs}
-use Rattle.delivery.specs.Delivery.{toTask}
+use Rattle.delivery.specs.Delivery.{result, settledAtTask, toTask}
 use Rattle.delivery.proofs.to_task.Statement.{statement}
 use Rattle.delivery.proofs.to_task.Tie as tie
 
@@ -37,7 +38,15 @@ same-length c = search needs
 
 returns-2 : tie.Need-returns-2
 unfolding toTask
-returns-2 c = (rw (← c .before .before .before .before .before .before .before .before .before .before .before .pop .ensures, c .before .before .before .before .before .before .before .before .before .front .given .1, ← c .before .before .before .before .before .at-task .ensures) (c .before .before .settled .ensures .0), rw (← c .before .before .before .before .before .before .before .before .before .before .before .pop .ensures, c .before .before .before .before .before .before .before .before .before .front .given .1, ← c .before .before .before .before .before .at-task .ensures) (c .before .before .settled .ensures .1))
+returns-2 c =
+    let taken = c .before .before .before .before .before .before .before .before .before .before .before .pop in
+    let front = c .before .before .before .before .before .before .before .before .before .front in
+    let work = c .before .before .before .before .before .at-task in
+    let done = c .before .before .settled in
+    let settled : done .result ≡ result (settledAtTask _ (taken .result .state) _ _ (work .result)) = done .ensures .0 in (
+      rw (← taken .ensures, front .given .1, ← work .ensures) settled,
+      rw (← taken .ensures, front .given .1, ← work .ensures) (done .ensures .1),
+    )
 
 pub to-task-spec : {M : Type 1} → statement M
 to-task-spec =

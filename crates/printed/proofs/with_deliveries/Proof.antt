@@ -2,6 +2,8 @@
 use mathlib.Core.Path.{_≡_}
 use lib.ListN.{length}
 use borrow.Author.Needs.{needs}
+use Rattle.report.specs.Report.{report}
+use Rattle.text.specs.Text.{typed}
 use Rattle.printed.proofs.Started.{fresh-course}
 use Rattle.printed.proofs.with_deliveries.Statement.{statement}
 use Rattle.printed.proofs.with_deliveries.Tie as tie
@@ -36,10 +38,11 @@ returns c =
     let r = c .before .before .before .before .before .before .before .before .before .before .before .before .before .run in
     let n = c .before .before .before .before .before .number in
     let q = c .before .before .before .before .quiet in
-    let w = c .before .before .report in (
+    let w = c .before .before .report in
+    let told : w .result ≡ typed (report _ _ _ (r .result .made) _ _ _) _ .at = w .ensures .1 in (
       rw e (rw (n .ensures, q .ensures, r .ensures .0, r .ensures .1, f .ensures) at (w .ensures .0)),
       (
-        rw e (rw (n .ensures, q .ensures, r .ensures .0, r .ensures .1, f .ensures) at (w .ensures .1)),
+        rw e (rw (n .ensures, q .ensures, r .ensures .0, r .ensures .1, f .ensures) at told),
         rw e (rw (f .ensures) at (r .ensures .1)),
       ),
     )

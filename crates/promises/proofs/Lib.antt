@@ -1,0 +1,3 @@
+pub mod NoOther
+pub mod Worked
+pub mod Desks
