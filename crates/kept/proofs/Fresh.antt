@@ -109,6 +109,9 @@ module _ (T : Table) (h : soundTable T ≡ true) where
   pub fresh-sound : soundIn T (freshState T) ≡ true
   fresh-sound = state-sound T (freshState T) (started .rules)
 
+  pub fresh-logged : freshState T .logged ≡ 0
+  fresh-logged = started .logged
+
   pub fresh-sized : SizedState (freshState T)
   fresh-sized = state-sized T (freshState T) (started .rules)
 

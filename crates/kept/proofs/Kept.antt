@@ -61,6 +61,21 @@ module _ (T : Table) (R : Rules T) (s : State) (r : StateRules T s) where
       states.with-gate T s g (withDown (gateOf s g) b empty1)
       (down-kept T g (gateOf s g) b empty1 fits (r .gate g (omega (arith, R .gates)))) r
 
+  -- the oldest message of a channel may come to its receiver
+  pub across-front : (a b : ℕ) → a < T .tasks → b < T .tasks → (acrossOf (taskOf s a) b .count ≡ 0 → ⊥)
+      → comes T b (acrossOf (taskOf s a) b .first) ≡ true
+  across-front a b x y n =
+      let c : Channel1 = acrossOf (taskOf s a) b in
+      let k = r .task a (omega (arith, R .tasks)) .kept .across b (omega (arith, R .tasks)) in
+      across-comes T a b (c .first) (one-fits (acrossFit T a b) (ltb a (T .tasks) && ltb b (T .tasks)) c k n)
+
+  pub down-front : (g b : ℕ) → g < T .gates → b < T .tasks → (downOf (gateOf s g) b .count ≡ 0 → ⊥)
+      → comes T b (downOf (gateOf s g) b .first) ≡ true
+  down-front g b x y n =
+      let c : Channel1 = downOf (gateOf s g) b in
+      let k = r .gate g (omega (arith, R .gates)) .down b (omega (arith, R .tasks)) in
+      down-comes T g b (c .first) (one-fits (downFit T g b) (ltb g (T .gates) && ltb b (T .tasks)) c k n)
+
   -- the receiver after its work
   gate-worked : (popped : State) (t g : ℕ) (m : Message) → t < T .tasks → g < T .gates → StateRules T popped
       → StateRules T (withGate popped g (atGate (T .masks) (getD (T .vectors) g 0) g t (gateOf s g) m .gate))
@@ -90,18 +105,12 @@ module _ (T : Table) (room : length (T .vectors) ≡ 16) (s : State) (log : List
   after _ (to-task a b h x y n l) d =
       let R = sound-rules T (sound-says T s log h .table) in
       let r = before h in
-      let c : Channel1 = acrossOf (taskOf s a) b in
-      let k = r .task a (omega (arith, R .tasks)) .kept .across b (omega (arith, R .tasks)) in
-      task-worked T R s r room (acrossPopped s a b) b _ (c .first) y
-      (across-comes T a b (c .first) (one-fits (acrossFit T a b) (ltb a (T .tasks) && ltb b (T .tasks)) c k n))
+      task-worked T R s r room (acrossPopped s a b) b _ (acrossOf (taskOf s a) b .first) y (across-front T R s r a b x y n)
       (across-popped T R s r a b x)
   after _ (from-gate g b h x y n l) d =
       let R = sound-rules T (sound-says T s log h .table) in
       let r = before h in
-      let c : Channel1 = downOf (gateOf s g) b in
-      let k = r .gate g (omega (arith, R .gates)) .down b (omega (arith, R .tasks)) in
-      task-worked T R s r room (downPopped s g b) b _ (c .first) y
-      (down-comes T g b (c .first) (one-fits (downFit T g b) (ltb g (T .gates) && ltb b (T .tasks)) c k n))
+      task-worked T R s r room (downPopped s g b) b _ (downOf (gateOf s g) b .first) y (down-front T R s r g b x y n)
       (down-popped T R s r g b x)
 
 module _ (T : Table) (s : State) (log : List ℕ) (from to : ℕ) where

@@ -8,4 +8,5 @@ pub mod States
 pub mod Ends
 pub mod Log
 pub mod Kept
+pub mod Entries
 pub mod Fresh

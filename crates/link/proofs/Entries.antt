@@ -5,14 +5,12 @@ use mathlib.Core.Path.{_≡_, _∙_, ap, refl}
 use native.Mathlib.Nat.{add-suc, add-zero}
 use native.Mathlib.Numerals.{add-one}
 use native.Mathlib.Omega.{arith}
-use lib.ListN.{getD, length, length-set, set}
+use lib.ListN.{getD, length, set}
 use lib.Seq.{getD-set-other, getD-set-same}
-use Rattle.laws.specs.Turns.{upTo}
-use Rattle.laws.proofs.Stores.{set-other}
-use Rattle.laws.proofs.Turning.{turns-keep}
 use Rattle.channels.specs.Channels.{noRequest}
 use Rattle.channels.specs.declared.Request.{Request}
-use Rattle.delivery.specs.Delivery.{entered, written, writtenAt}
+use Rattle.delivery.specs.Delivery.{entered, written}
+use Rattle.kept.proofs.Log.{entry-new, entry-old, same-length}
 use Rattle.link.proofs.View.{newestFirst}
 
 -- the first n entries of a delivery, the newest first, before those of the log
@@ -37,34 +35,17 @@ entries-more n entries r log h =
 before : (m k : ℕ) (log : List ℕ) (r : Request) → m ≤ k → newestFirst m (entered k r log) ≡ newestFirst m log
 before zero k log r h = refl
 before (suc m) k log r h =
-    rw (
-      before m k log r (omega arith),
-      set-other (set log (k * 2) (r .gate .0)) (k * 2 + 1) (m * 2) (r .vector) (λ e. absurd (omega arith)),
-      set-other log (k * 2) (m * 2) (r .gate .0) (λ e. absurd (omega arith)),
-      set-other (set log (k * 2) (r .gate .0)) (k * 2 + 1) (m * 2 + 1) (r .vector) (λ e. absurd (omega arith)),
-      set-other log (k * 2) (m * 2 + 1) (r .gate .0) (λ e. absurd (omega arith)),
-    )
+    rw (before m k log r (omega arith)) (ap (λ e. e ∷ newestFirst m log) (entry-old k r log m (λ p. omega arith)))
 
 one-more : (k : ℕ) (log : List ℕ) (r : Request) → k * 2 + 1 < length log
     → newestFirst (suc k) (entered k r log) ≡ r ∷ newestFirst k log
-one-more k log r h =
-    rw (
-      before k k log r (omega arith),
-      set-other (set log (k * 2) (r .gate .0)) (k * 2 + 1) (k * 2) (r .vector) (λ e. absurd (omega arith)),
-      getD-set-same log (k * 2) (r .gate .0) 0 (omega arith),
-      getD-set-same (set log (k * 2) (r .gate .0)) (k * 2 + 1) (r .vector) 0 (simp length-set h),
-    )
+one-more k log r h = rw (before k k log r (omega arith)) (ap (λ e. e ∷ newestFirst k log) (entry-new k r log h))
 
-module _ (at : ℕ) (entries : List Request) (log : List ℕ) where
-  same-length : (n : ℕ) → length (upTo (writtenAt at entries) n log) ≡ length log
-  same-length n = turns-keep (λ (l : List ℕ). length l ≡ length log) (writtenAt at entries) n log
-      (λ k l below e. simp length-set e) refl
-
-  -- n entries written behind the first `at`
-  pub written-entries : (n : ℕ) → (at + n) * 2 ≤ length log
-      → newestFirst (at + n) (written at entries n log) ≡ entriesWith n entries (newestFirst at log)
-  unfolding written
-  written-entries zero h = rw add-zero
-  written-entries (suc n) h = rw (add-suc at n)
-      (one-more (at + n) (upTo (writtenAt at entries) n log) (getD entries n noRequest) (rw (same-length n) (omega arith))
-      ∙ ap (λ l. (getD entries n noRequest) ∷ l) (written-entries n (omega arith)))
+-- n entries written behind the first `at`
+pub written-entries : (at : ℕ) (entries : List Request) (log : List ℕ) (n : ℕ) → (at + n) * 2 ≤ length log
+    → newestFirst (at + n) (written at entries n log) ≡ entriesWith n entries (newestFirst at log)
+unfolding written
+written-entries at entries log zero h = rw add-zero
+written-entries at entries log (suc n) h = rw (add-suc at n)
+    (one-more (at + n) (written at entries n log) (getD entries n noRequest) (rw (same-length at entries n log) (omega arith))
+    ∙ ap (λ l. getD entries n noRequest ∷ l) (written-entries at entries log n (omega arith)))

@@ -44,3 +44,17 @@ short (suc f) (suc k) n h = either (ltb n 10) (short f k (n / 10) (fewer (suc k)
 pub decimal-short : (k n : ℕ) → 0 < k → n < 10 ^ k → length (decimal n) ≤ k
 decimal-short zero n l h = absurd (omega arith)
 decimal-short (suc k) n l h = short 20 k n h
+
+-- no number has more than there is room for
+few : (f n : ℕ) → length (decimalOf f n) ≤ f
+unfolding decimalOf
+few zero n = omega arith
+few (suc f) n = either (ltb n 10) (few f (n / 10))
+  where
+    either : (b : Bool) → length (decimalOf f (n / 10)) ≤ f
+        → length (cond b ((48 + n) ∷ []) (decimalOf f (n / 10) ++ ((48 + n % 10) ∷ []))) ≤ suc f
+    either true m = omega arith
+    either false m = simp length-append (omega arith)
+
+pub decimal-most : (n : ℕ) → length (decimal n) ≤ 20
+decimal-most n = few 20 n

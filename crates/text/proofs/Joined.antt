@@ -1,5 +1,5 @@
 -- Laws of `joined`: it is typed by a loop, and how long it is.
-use Prim.Native.Nat.{ℕ, suc, zero, _+_, _*_, _≤_}
+use Prim.Native.Nat.{ℕ, suc, zero, _+_, _*_, _<_, _≤_}
 use mathlib.Core.List.{List}
 use mathlib.Core.Path.{_≡_, refl}
 use native.Mathlib.Nat.{suc-mul, add-le-add}
@@ -19,7 +19,8 @@ pub joined-turn : (f : ℕ → List ℕ) (n : ℕ) (t : Text) {u v : Text}
 unfolding joined
 joined-turn f n t p q = rw add-one (typed-then (joined f n) (f n) t p q)
 
-pub joined-short : (f : ℕ → List ℕ) (b : ℕ) → ((i : ℕ) → length (f i) ≤ b) → (n : ℕ) → length (joined f n) ≤ n * b
+pub joined-short : (f : ℕ → List ℕ) (b n : ℕ) → ((i : ℕ) → i < n → length (f i) ≤ b) → length (joined f n) ≤ n * b
 unfolding joined
-joined-short f b h zero = omega arith
-joined-short f b h (suc n) = simp (length-append, suc-mul) (add-le-add (joined-short f b h n) (h n))
+joined-short f b zero h = omega arith
+joined-short f b (suc n) h =
+    simp (length-append, suc-mul) (add-le-add (joined-short f b n (λ i l. h i (omega arith))) (h n (omega arith)))
