@@ -14,7 +14,8 @@ use Rattle.laws.proofs.Numbers.{below-of, each-of}
 use Rattle.laws.proofs.Tests.{and-true, or-left, or-right}
 use Rattle.table.specs.Tables.{cellOf}
 use Rattle.table.specs.declared.Table.{Table}
-use Rattle.soundness.specs.Sound.{taskSound, mostAt, moveSound, movesSound, vectorFits, gateSound, soundTable}
+use Rattle.soundness.specs.Sound.{taskSound, mostAt, movesSound, vectorFits, gateSound, soundTable}
+use Rattle.soundness.proofs.Rows.{moveSound}
 use Rattle.reader.specs.Rules.{Loading}
 use Rattle.reader.specs.Reader.{refusedOf, endedOf, readOf}
 use Rattle.reader.specs.declared.Loaded.{Loaded}

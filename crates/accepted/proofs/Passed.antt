@@ -16,7 +16,7 @@ use Rattle.records.specs.Records.{recordAt}
 use Rattle.records.specs.declared.Record.{Record}
 use Rattle.records.specs.declared.Record.the-variants.{System, Task, Transition, Vector}
 use Rattle.reader.specs.Rules.{Loading, allowedKind, kindFault, inRange, isNinth, inOrder, fieldFault}
-use Rattle.reader.specs.Reader.{orFields, faultAt}
+use Rattle.reader.specs.Reader.{faultAt}
 use Rattle.reader.specs.declared.Progress.{Progress}
 
 -- a test whose fault did not come was false, and what stands behind it is done
@@ -24,7 +24,7 @@ pub passed : (t : Bool) (fault rest : Answer) → isDone fault ≡ false → isD
 passed true fault rest n d = absurd (true≢false (sym d ∙ n))
 passed false fault rest n d = (refl, d)
 
-both : (head fields : Answer) → isDone (orFields head fields) ≡ true → (isDone head ≡ true) × (isDone fields ≡ true)
+both : (head fields : Answer) → isDone (cond (isDone head) fields head) ≡ true → (isDone head ≡ true) × (isDone fields ≡ true)
 both head fields d = turn (isDone head) refl d
   where
     turn : (t : Bool) → isDone head ≡ t → isDone (cond t fields head) ≡ true → (isDone head ≡ true) × (isDone fields ≡ true)

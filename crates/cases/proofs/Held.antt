@@ -15,7 +15,8 @@ use Rattle.gates.specs.Gates.{searched, atGate}
 use Rattle.delivery.specs.Delivery.{written, toGate, toTask, between, soundFor, delivered}
 use Rattle.fresh.specs.Fresh.{freshState, fresh}
 use Rattle.quiet.specs.Quiet.{quiet}
-use Rattle.line.specs.Runs.{run, answers}
+use Rattle.line.specs.Runs.{run}
+use Rattle.line.specs.Answered.{answers}
 use Rattle.cases.specs.Paper.{cases, AllHold}
 
 pub all-hold : AllHold cases

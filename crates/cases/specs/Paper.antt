@@ -6,7 +6,8 @@ use mathlib.Core.Path.{_≡_}
 use lib.ListN.{take}
 use Rattle.answers.specs.Answers.{numberOf}
 use Rattle.delivery.specs.Delivery.{Outcome}
-use Rattle.line.specs.Runs.{begun, answers, runFrom}
+use Rattle.line.specs.Runs.{begun, runFrom}
+use Rattle.line.specs.Answered.{answers}
 use Rattle.quiet.specs.Quiet.{quiet}
 use Rattle.reader.specs.Reader.{readOf}
 use Rattle.table.specs.Tables.{emptyTable}

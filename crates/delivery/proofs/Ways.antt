@@ -2,7 +2,7 @@
 use Prim.Native.Nat.{ℕ}
 use mathlib.Core.Bool.{Bool, true, false, cond}
 use lib.Dec.{eqb}
-use Rattle.numbers.specs.Endpoints.{InRange}
+use Rattle.numbers.proofs.Resolved.{InRange}
 use Rattle.numbers.specs.declared.Endpoint.{Endpoint}
 use Rattle.numbers.specs.declared.Endpoint.the-variants.{Nobody, Task, Gate}
 use Rattle.state.specs.declared.Link.the-variants.{ToTask}

@@ -50,23 +50,17 @@ refused s log answer = record { state = s; answer = answer; log = log }
 abbrev pub entered : ℕ → Request → List ℕ → List ℕ
 entered at r log = set (set log (at * 2) (r .gate .0)) (at * 2 + 1) (r .vector)
 
--- entry k of those written behind the first `at`
-abbrev pub writtenAt : ℕ → List Request → ℕ → List ℕ → List ℕ
-writtenAt at entries k log = entered (at + k) (getD entries k noRequest) log
-
+-- these many entries, written behind the first `at`
 unfoldable pub written : ℕ → List Request → ℕ → List ℕ → List ℕ
-written at entries count log = upTo (writtenAt at entries) count log
-
--- "its capacity is its length divided by two, rounded down"
-abbrev pub freeRoom : State → List ℕ → ℕ
-freeRoom s log = length log / 2 - s .logged
+written at entries count log = upTo (λ (k : ℕ) (l : List ℕ). entered (at + k) (getD entries k noRequest) l) count log
 
 -- A task's work on a delivery settled, where s is the state before and popped the state without the message.
--- "12 .. is judged over the delivery's whole work as though the log had room; 10 is looked at only after that."
+-- "12 .. is judged over the delivery's whole work as though the log had room; 10 is looked at only after that." The log's
+-- "capacity is its length divided by two, rounded down".
 abbrev pub settledAtTask : State → State → List ℕ → ℕ → task.Work → Outcome
 settledAtTask s popped log b w =
     cond (not (w .ok)) (refused s log Excluded)
-    (cond (ltb (freeRoom s log) (w .fired)) (refused s log LogFull)
+    (cond (ltb (length log / 2 - s .logged) (w .fired)) (refused s log LogFull)
     (record {
       state = withLogged (withTask popped b (w .task)) (s .logged + w .fired);
       answer = Done;

@@ -7,7 +7,8 @@ use Rattle.sets.proofs.Members.{no-member}
 use Rattle.state.specs.declared.Deal.{Deal}
 use Rattle.state.specs.declared.Deal.the-variants.{Idle, Dealing}
 use Rattle.state.specs.declared.Gate.{Gate}
-use Rattle.gates.specs.Gates.{dealtMask, ended, endedWith}
+use Rattle.gates.specs.Gates.{ended}
+use Rattle.gates.specs.Parts.{dealtMask, endedWith}
 
 pub ended-mask : (masks : List ℕ) (vectors g t : ℕ) (offers : ℕ → ℕ → ℕ) (k : Gate) (deal : Deal)
     → ended masks vectors g t offers k deal

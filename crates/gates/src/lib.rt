@@ -7,7 +7,8 @@ use sets::Found;
 use state::Deal;
 use state::Gate;
 ghost use mathlib.Core.Path.{_≡_};
-ghost use Rattle.gates.specs.Gates.{offering, dealtMask, toTask, fitting, searchedBy, endedWith, atGate};
+ghost use Rattle.gates.specs.Gates.{offering, toTask, fitting, searchedBy, atGate};
+ghost use Rattle.gates.specs.Parts.{dealtMask, endedWith};
 
 // The work of one delivery on its receiver: the gate so far, and whether all of it is allowed.
 pub struct Work {

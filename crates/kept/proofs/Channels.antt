@@ -10,7 +10,8 @@ use Rattle.channels.specs.Channels.{isReady, empty1, empty3, popped3, put1, put
 use Rattle.channels.specs.declared.Message.{Message}
 use Rattle.channels.specs.declared.Channel1.{Channel1}
 use Rattle.channels.specs.declared.Channel3.{Channel3}
-use Rattle.sound_state.specs.SoundState.{room, upFits, upSound, oneSound}
+use Rattle.sound_state.specs.SoundState.{upFits, upSound}
+use Rattle.sound_state.specs.Parts.{oneSound, room}
 
 abbrev channel3 : ℕ → Message → Message → Message → Channel3
 channel3 n a b c = record { count = n; first = a; second = b; third = c }

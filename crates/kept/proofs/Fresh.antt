@@ -24,7 +24,8 @@ use Rattle.state.specs.States.{emptyTask, emptyGate, emptyState, noTask, noGate
 use Rattle.state.specs.declared.Task.{Task}
 use Rattle.state.specs.declared.Gate.{Gate}
 use Rattle.state.specs.declared.State.{State}
-use Rattle.sound_state.specs.SoundState.{room, stateSound, waitingSound}
+use Rattle.sound_state.specs.SoundState.{waitingSound}
+use Rattle.sound_state.specs.Parts.{room, stateSound}
 use Rattle.tasks.specs.Tasks.{begun, announced}
 use Rattle.delivery.specs.Delivery.{sound}
 use Rattle.fresh.specs.Fresh.{startedAt, freshState}

@@ -15,7 +15,8 @@ use Rattle.channels.specs.declared.Request.{Request}
 use Rattle.table.specs.declared.Table.{Table}
 use Rattle.state.specs.declared.State.{State}
 use Rattle.tasks.specs.declared.Work.{Work}
-use Rattle.delivery.specs.Delivery.{Outcome, entered, writtenAt, written, delivered}
+use Rattle.delivery.specs.Delivery.{Outcome, entered, written, delivered}
+use Rattle.delivery.proofs.Written.{writtenAt}
 use Rattle.kept.proofs.Ends.{Ends, refuses, to-gate, to-task, from-gate, HasRoom, doneAtTask, acrossPopped, downPopped, acrossWork, downWork, ends}
 use Rattle.kept.proofs.States.{sound-says}
 

@@ -24,7 +24,8 @@ use Rattle.state.specs.States.{upOf, acrossOf, atState, withMode, withUp, withA
 use Rattle.state.specs.declared.Mode.{Mode}
 use Rattle.state.specs.declared.Mode.the-variants.{Free}
 use Rattle.state.specs.declared.Task.{Task}
-use Rattle.sound_state.specs.SoundState.{upFits, stateSound}
+use Rattle.sound_state.specs.SoundState.{upFits}
+use Rattle.sound_state.specs.Parts.{stateSound}
 use Rattle.tasks.specs.Tasks.{with, toGate, toTask, sentAt, sentBelow, sent, announcedAt, announced, movedTo}
 use Rattle.tasks.specs.declared.Work.{Work}
 use Rattle.kept.proofs.Channels.{put-up, put-one}

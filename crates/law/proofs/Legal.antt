@@ -1,15 +1,16 @@
 -- The log of a safe line is a legal run of the simple machine.
-use Prim.Native.Nat.{ℕ, suc, zero}
+use Prim.Native.Nat.{ℕ, suc, zero, _+_, _*_}
 use mathlib.Core.Bool.{true}
 use mathlib.Core.List.{List, [], _∷_, _++_}
 use mathlib.Core.Path.{_≡_, refl, ap, _∙_}
+use lib.ListN.{getD}
 use Rattle.channels.specs.declared.Request.{Request}
 use Rattle.table.specs.declared.Table.{Table}
 use Rattle.machine.specs.Machine as machine
 use Rattle.machine.specs.Machine.{Entry, starts, enabled, legal, replay}
 use Rattle.machine.proofs.Runs.{enabled-of, replay-more, legal-more}
 use Rattle.protocol.specs.Runs.{Legal, start, fired}
-use Rattle.line.specs.Contents.{entryAt, entriesOf}
+use Rattle.line.specs.Contents.{entriesOf}
 use Rattle.link.proofs.View.{newestFirst}
 use Rattle.link.proofs.Tables.{planOf, Lawful}
 
@@ -21,7 +22,8 @@ oldestFirst (r ∷ l) = oldestFirst l ++ record { gate = r .gate .0; vector = r 
 same-entries : (n : ℕ) (log : List ℕ) → entriesOf n log ≡ oldestFirst (newestFirst n log)
 unfolding entriesOf
 same-entries zero log = refl
-same-entries (suc n) log = ap (λ (l : List Entry). l ++ entryAt log n ∷ []) (same-entries n log)
+same-entries (suc n) log =
+    ap (λ (l : List Entry). l ++ record { gate = getD log (n * 2) 0; vector = getD log (n * 2 + 1) 0 } ∷ []) (same-entries n log)
 
 -- what the simple machine makes of these entries: a legal run to the states `at`
 pub record LegalTo (T : Table) (entries : List Entry) (at : ℕ → ℕ) : Type 0 where

@@ -19,7 +19,8 @@ use Rattle.channels.specs.declared.Message.the-variants.{Abort, Commit, Lock, R
 use Rattle.state.specs.States.{acrossOf, downOf, gateOf, taskOf, upOf}
 use Rattle.state.specs.declared.State.{State}
 use Rattle.delivery.specs.Delivery.{Outcome, between, delivered, wayOf, wayTaken}
-use Rattle.quiet.specs.Quiet.{gatesQuiet, oneQuiet, onesQuiet, quiet, tasksQuiet, threeQuiet, threesQuiet}
+use Rattle.quiet.specs.Quiet.{gatesQuiet, quiet, tasksQuiet}
+use Rattle.quiet.specs.Parts.{oneQuiet, onesQuiet, threeQuiet, threesQuiet}
 use Rattle.kept.proofs.Rules.{acrossFit, namesOf}
 use Rattle.protocol.proofs.Cases.{clash}
 use Rattle.line.specs.Law.{goesOn}

@@ -17,8 +17,9 @@ use Rattle.delivery.specs.Delivery.{Outcome, delivered}
 use Rattle.fresh.specs.Fresh.{fresh}
 use Rattle.kept.proofs.Ends.{refused-changes-nothing}
 use Rattle.kept.proofs.Log.{log-behind}
-use Rattle.line.specs.Law.{Allowed, Each}
-use Rattle.line.specs.Runs.{begun, run, answers}
+use Rattle.line.specs.Law.{Allowed}
+use Rattle.line.specs.Answered.{Each, answers}
+use Rattle.line.specs.Runs.{begun, run}
 use Rattle.link.proofs.Made.{done, full}
 use Rattle.link.proofs.Deliveries.{Safe, Answered, no-channel, empty, made, answered, safe-after, safe-fresh}
 use Rattle.link.proofs.Tables.{Lawful}

@@ -13,7 +13,7 @@ use Rattle.table.specs.declared.Table.{Table}
 use Rattle.channels.specs.Channels.{empty1, empty3}
 use Rattle.state.specs.States.{acrossOf, downOf, gateOf, noGate, noTask, taskOf, upOf}
 use Rattle.state.specs.declared.State.{State}
-use Rattle.sound_state.specs.SoundState.{room}
+use Rattle.sound_state.specs.Parts.{room}
 use Rattle.kept.proofs.Channels.{one-fits}
 use Rattle.kept.proofs.Rules.{acrossFit}
 use Rattle.kept.proofs.States.{StateRules}

@@ -6,7 +6,8 @@ use mathlib.Core.Path.{_≡_, refl, sym, ap, _∙_}
 use native.Mathlib.Nat.{eq-or-lt-of-le, le-of-suc-le-suc}
 use native.Mathlib.Numerals.{add-one}
 use native.Mathlib.Omega.{arith}
-use Rattle.laws.specs.Below.{firstFrom, lastBelow}
+use Rattle.laws.specs.Below.{firstFrom}
+use Rattle.laws.specs.Last.{lastBelow}
 
 -- r is the first from i on, among the next n, of which P holds, or i + n
 pub record First (P : ℕ → Bool) (i n r : ℕ) : Type 0 where

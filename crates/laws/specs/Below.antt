@@ -11,8 +11,3 @@ allBelow (suc n) P = P n && allBelow n P
 unfoldable pub firstFrom : ℕ → ℕ → (ℕ → Bool) → ℕ
 firstFrom i zero P = i
 firstFrom i (suc n) P = cond (P i) i (firstFrom (suc i) n P)
-
--- the last number below n of which P holds; none where there is none
-unfoldable pub lastBelow : ℕ → (ℕ → Bool) → ℕ → ℕ
-lastBelow zero P none = none
-lastBelow (suc n) P none = cond (P n) n (lastBelow n P none)

@@ -1,7 +1,7 @@
 -- What the third demand says of every state that a line reaches.
 use Prim.Native.Nat.{ℕ, _*_, _≤_}
 use mathlib.Core.Bool.{true, false}
-use mathlib.Core.List.{List, [], _∷_}
+use mathlib.Core.List.{List}
 use mathlib.Core.Logic.{_≢_, _⊎_}
 use mathlib.Core.Path.{_≡_}
 use lib.ListN.{getD, length}
@@ -30,11 +30,6 @@ travels s a b m = (acrossOf (taskOf s a) b .count ≢ 0) × (acrossOf (taskOf s 
 pub record Allowed (a : Answer) : Type 0 where
   pub not11 : a ≢ Unsound
   pub not12 : a ≢ Excluded
-
--- each of a list is so
-abbrev pub Each : {A : Type 0} → (A → Type 0) → List A → Type 0
-Each P [] = Unit {0}
-Each P (x ∷ xs) = P x × Each P xs
 
 -- a message is delivered, or refused for want of room in the log alone
 abbrev pub goesOn : Answer → Type 0

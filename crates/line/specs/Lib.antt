@@ -1,4 +1,5 @@
 pub mod Contents
 pub mod Runs
+pub mod Answered
 pub mod Tokens
 pub mod Law

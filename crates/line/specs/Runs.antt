@@ -1,7 +1,6 @@
 -- A line from Fresh on, through any deliveries.
 use mathlib.Core.List.{List, [], _∷_}
 use Prim.Native.Nat.{ℕ}
-use Rattle.answers.specs.declared.Answer.{Answer}
 use Rattle.table.specs.declared.Table.{Table}
 use Rattle.schedule.specs.declared.Delivery.{Delivery}
 use Rattle.delivery.specs.Delivery.{Outcome, delivered}
@@ -15,13 +14,6 @@ begun T log = record { state = fresh T .state; answer = fresh T .answer; log = l
 unfoldable pub run : Table → Outcome → List Delivery → Outcome
 run T o [] = o
 run T o (d ∷ deliveries) = run T (delivered T (o .state) (o .log) (d .from) (d .to)) deliveries
-
--- what each of them answers
-unfoldable pub answers : Table → Outcome → List Delivery → List Answer
-answers T o [] = []
-answers T o (d ∷ deliveries) =
-    delivered T (o .state) (o .log) (d .from) (d .to) .answer
-    ∷ answers T (delivered T (o .state) (o .log) (d .from) (d .to)) deliveries
 
 abbrev pub runFrom : Table → List ℕ → List Delivery → Outcome
 runFrom T log deliveries = run T (begun T log) deliveries

@@ -24,7 +24,7 @@ use Rattle.state.specs.declared.Deal.{Deal}
 use Rattle.state.specs.declared.Deal.the-variants.{Dealing, Idle}
 use Rattle.state.specs.declared.Gate.{Gate}
 use Rattle.state.specs.declared.Task.{Task}
-use Rattle.gates.specs.Gates.{afterAbort, afterCommit, allowed, dealt, fitting, offering, request, searched, searchedBy, toTask}
+use Rattle.gates.specs.Gates.{afterAbort, afterCommit, allowed, dealt, fitting, offering, searched, searchedBy, toTask}
 use Rattle.gates.specs.declared.Work.{Work}
 use Rattle.kept.proofs.Rules.{SizedGate}
 use Rattle.protocol.specs.Lines.{Line}
@@ -32,11 +32,11 @@ use Rattle.protocol.specs.Plans.{changed}
 use Rattle.protocol.specs.Steps.{readyTaken, resultTaken}
 use Rattle.protocol.proofs.Agree.{agree-path}
 use Rattle.protocol.proofs.Cases.{clash, diff, eq-case, same}
-use Rattle.line.specs.Contents.{messages1, messages3, requestsOf}
+use Rattle.line.specs.Contents.{messages1, messages3}
 use Rattle.link.proofs.Channels.{empty-count1, put-messages1}
 use Rattle.link.proofs.Frame.{changed-at, changed-back, changed-twice, part-changed, part-kept, row-changed-from, row-changed-to, row-kept, set-row}
 use Rattle.link.proofs.Tables.{Lawful, coveredBy, numberOf, planOf, subset-covered}
-use Rattle.link.proofs.View.{acrossList, downList, lineWith, upList}
+use Rattle.link.proofs.View.{acrossList, downList, lineWith, upList, requestsOf}
 use Rattle.sets.specs.declared.Found.the-variants as found
 use Rattle.protocol.specs.Steps as step
 use Rattle.protocol.specs.Deliveries as protocol
@@ -124,7 +124,7 @@ module _ (T : Table) (q : Lawful T) (S : ℕ → Task) (G : ℕ → Gate) (log :
   dealtGate v = offering (G g) (minusOf offers (maskOf (T .masks) g v)) (Dealing v)
 
   abbrev lockOf : ℕ → Message
-  lockOf v = Lock (request (T .masks) vectors g v)
+  lockOf v = Lock (record { gate = record { 0 = g }; vector = v })
 
   same-fitting : fitting (T .masks) vectors g offers ≡ firstFrom 0 vectors (λ v. coveredBy (maskOf (T .masks) g v) (memberOf offers))
   same-fitting = ap (firstFrom 0 vectors) (fun-ext (λ v. subset-covered (maskOf (T .masks) g v) offers (q .small g v)))

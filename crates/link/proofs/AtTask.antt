@@ -32,13 +32,12 @@ use Rattle.protocol.proofs.Phases.{decided}
 use Rattle.protocol.proofs.Reading.{free-of}
 use Rattle.protocol.proofs.Room.{waiting-room}
 use Rattle.protocol.proofs.Tokens.{inHand}
-use Rattle.line.specs.Contents.{requestsOf}
 use Rattle.link.proofs.Frame.{swap-kept, swap-part}
 use Rattle.link.proofs.Handled.{handled-shows}
 use Rattle.link.proofs.Lists.{list-shows, wait-length}
 use Rattle.link.proofs.Shows.{Shows, own-mode, own-state, own-waiting}
 use Rattle.link.proofs.Tables.{Lawful, planOf}
-use Rattle.link.proofs.View.{acrossList, upList}
+use Rattle.link.proofs.View.{acrossList, upList, requestsOf}
 use Rattle.link.proofs.Works.{freed-shows, moved-shows, ready-room}
 use Rattle.protocol.specs.Steps as step
 use Rattle.protocol.specs.Deliveries as protocol

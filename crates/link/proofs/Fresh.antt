@@ -26,11 +26,10 @@ use Rattle.protocol.specs.Lines.{Line, fresh, readyIf}
 use Rattle.protocol.proofs.Agree.{agree-path}
 use Rattle.protocol.proofs.Invariant.{Invariant}
 use Rattle.protocol.proofs.Start.{fresh-ok}
-use Rattle.line.specs.Contents.{requestsOf}
 use Rattle.link.proofs.Frame.{set-changed}
 use Rattle.link.proofs.Loops.{Told, below, below-more, below-none, tell, withUps}
 use Rattle.link.proofs.Tables.{Lawful, planOf}
-use Rattle.link.proofs.View.{acrossList, downList, lineOf, newestFirst, upList}
+use Rattle.link.proofs.View.{acrossList, downList, lineOf, newestFirst, upList, requestsOf}
 
 -- what is the same everywhere in a list, and behind its end
 same-everywhere : {A : Type 0} (n i : ℕ) (a : A) → getD (replicate n a) i a ≡ a

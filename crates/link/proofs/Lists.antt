@@ -26,12 +26,11 @@ use Rattle.protocol.proofs.Phases.{idle}
 use Rattle.protocol.proofs.Reading.{free-of, queued-of}
 use Rattle.protocol.proofs.TokenMoves.{tokenTo}
 use Rattle.protocol.proofs.Tokens.{inHand, queued, vectorsOf}
-use Rattle.line.specs.Contents.{requestsOf}
 use Rattle.link.proofs.Frame.{swap-kept, swap-part}
 use Rattle.link.proofs.Handled.{handled-shows}
 use Rattle.link.proofs.Shows.{Fit, Shows, own-mode, own-waiting, shows-all}
 use Rattle.link.proofs.Tables.{Lawful, planOf}
-use Rattle.link.proofs.View.{acrossList, upList}
+use Rattle.link.proofs.View.{acrossList, upList, requestsOf}
 use Rattle.protocol.specs.Deliveries as protocol
 
 pub wait-length : (p : Task) → Fit p → length (requestsOf p) ≡ p .count

@@ -21,7 +21,7 @@ use Rattle.channels.specs.declared.Message.{Message}
 use Rattle.channels.specs.declared.Message.the-variants.{Ready}
 use Rattle.channels.specs.declared.Request.{Request}
 use Rattle.state.specs.declared.Task.{Task}
-use Rattle.sound_state.specs.SoundState.{room}
+use Rattle.sound_state.specs.Parts.{room}
 use Rattle.tasks.specs.Tasks.{announcedAt, sentAt}
 use Rattle.tasks.specs.declared.Work.{Work}
 use Rattle.protocol.specs.Plans.{changed}

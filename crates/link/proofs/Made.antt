@@ -1,5 +1,5 @@
 -- What becomes of a message that is there: it is delivered and the protocol's invariant holds again, or the log is full.
-use Prim.Native.Nat.{ℕ, _*_, _+_, _<_, _≤_}
+use Prim.Native.Nat.{ℕ, _*_, _+_, _-_, _/_, _<_, _≤_}
 use mathlib.Core.Bool.{Bool, cond, false, true}
 use mathlib.Core.List.{List}
 use mathlib.Core.Path.{_≡_, _∙_, ap, refl, subst, sym}
@@ -14,7 +14,7 @@ use Rattle.state.specs.States.{gateOf, taskOf, withGate, withTask}
 use Rattle.state.specs.declared.Gate.{Gate}
 use Rattle.state.specs.declared.State.{State}
 use Rattle.state.specs.declared.Task.{Task}
-use Rattle.delivery.specs.Delivery.{Outcome, freeRoom, refused, settledAtGate, settledAtTask, withLog}
+use Rattle.delivery.specs.Delivery.{Outcome, refused, settledAtGate, settledAtTask, withLog}
 use Rattle.kept.proofs.Ends.{doneAtTask}
 use Rattle.protocol.specs.Lines.{Line}
 use Rattle.protocol.specs.Plans.{changed}
@@ -38,12 +38,12 @@ module _ (T : Table) (s : State) (log : List ℕ) where
       → s .logged * 2 ≤ length log
       → Shows (gateOf popped) (newestFirst (s .logged) log) b (taskOf popped) w x
       → Invariant (planOf T) x → Made (settledAtTask s popped log b w)
-  made-at-task popped b hb w x z fits r i = rw (r .good) (turn (ltb (freeRoom s log) (w .fired)) refl)
+  made-at-task popped b hb w x z fits r i = rw (r .good) (turn (ltb (length log / 2 - s .logged) (w .fired)) refl)
     where
-      turn : (c : Bool) → ltb (freeRoom s log) (w .fired) ≡ c → Made (cond c (refused s log LogFull) (doneAtTask s popped log b w))
+      turn : (c : Bool) → ltb (length log / 2 - s .logged) (w .fired) ≡ c → Made (cond c (refused s log LogFull) (doneAtTask s popped log b w))
       turn true e = full refl
       turn false e =
-          let room = ltb-false (freeRoom s log) (w .fired) e in
+          let room = ltb-false (length log / 2 - s .logged) (w .fired) e in
           done refl (subst (λ (y : Line). Invariant (planOf T) y) (sym
           (ap (λ (f : ℕ → Task). lineWith f (gateOf popped) (newestFirst (s .logged + w .fired) (doneAtTask s popped log b w .log)))
           (task-changed popped b (w .task) (omega arith))

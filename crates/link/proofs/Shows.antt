@@ -12,11 +12,10 @@ use Rattle.tasks.specs.declared.Work.{Work}
 use Rattle.kept.proofs.Rules.{SizedTask}
 use Rattle.protocol.specs.Lines.{Line}
 use Rattle.protocol.specs.Plans.{changed}
-use Rattle.line.specs.Contents.{requestsOf}
 use Rattle.link.proofs.Entries.{entriesWith}
 use Rattle.link.proofs.Frame.{changed-at}
 use Rattle.link.proofs.Loops.{allowed, allowedIf}
-use Rattle.link.proofs.View.{acrossList, lineWith, upList}
+use Rattle.link.proofs.View.{acrossList, lineWith, upList, requestsOf}
 
 -- a task whose arrays have their lengths, and whose list is within its room
 pub record Fit (p : Task) : Type 0 where

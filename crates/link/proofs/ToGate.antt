@@ -21,7 +21,8 @@ use Rattle.state.specs.declared.Deal.the-variants.{Dealing, Idle}
 use Rattle.state.specs.declared.Gate.{Gate}
 use Rattle.state.specs.declared.Link.the-variants.{ToGate}
 use Rattle.state.specs.declared.State.{State}
-use Rattle.sound_state.specs.SoundState.{room, upFits, upSound}
+use Rattle.sound_state.specs.SoundState.{upFits, upSound}
+use Rattle.sound_state.specs.Parts.{room}
 use Rattle.gates.specs.Gates.{atGate, ended, offering, searched}
 use Rattle.gates.specs.declared.Work.{Work}
 use Rattle.delivery.specs.Delivery.{settledAtGate, toGate, withLog}

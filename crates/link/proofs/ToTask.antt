@@ -42,14 +42,14 @@ use Rattle.protocol.proofs.Invariant.{Invariant}
 use Rattle.protocol.proofs.Taken.{pass-links, take-links, tokenTaken}
 use Rattle.protocol.proofs.TokenMoves.{tokenTo}
 use Rattle.protocol.proofs.Tokens.{inHand}
-use Rattle.line.specs.Contents.{messages1, requestsOf}
+use Rattle.line.specs.Contents.{messages1}
 use Rattle.link.proofs.AtTask.{freedWork, locked-shows, result-shows}
 use Rattle.link.proofs.Channels.{pop-messages1}
 use Rattle.link.proofs.Frame.{changed-back, gate-changed, part-kept, row-changed-from, row-changed-to, row-kept, set-row, task-changed}
 use Rattle.link.proofs.Made.{Made, made-at-task}
 use Rattle.link.proofs.Shows.{Fit, Shows, begun-shows}
 use Rattle.link.proofs.Tables.{Lawful, planOf}
-use Rattle.link.proofs.View.{acrossList, downList, lineOf, lineWith, newestFirst, upList}
+use Rattle.link.proofs.View.{acrossList, downList, lineOf, lineWith, newestFirst, upList, requestsOf}
 
 held-by : (m : Mode) (g v : ℕ) → m ≡ held g v → heldBy g m ≡ true
 held-by m g v e = ap (heldBy g) e ∙ eqb-same g

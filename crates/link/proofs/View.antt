@@ -1,7 +1,7 @@
 -- The line as the protocol sees it: parties as functions of their numbers, channels and waiting lists as lists.
 use Prim.Native.Nat.{ℕ, suc, zero, _+_, _*_}
 use mathlib.Core.List.{List, [], _∷_}
-use lib.ListN.{getD}
+use lib.ListN.{getD, take}
 use Rattle.sets.specs.Sets.{memberOf}
 use Rattle.channels.specs.declared.Request.{Request}
 use Rattle.channels.specs.declared.Message.{Message}
@@ -10,7 +10,7 @@ use Rattle.state.specs.declared.Task.{Task}
 use Rattle.state.specs.declared.Gate.{Gate}
 use Rattle.state.specs.declared.State.{State}
 use Rattle.protocol.specs.Lines.{Line, request}
-use Rattle.line.specs.Contents.{messages1, messages3, requestsOf}
+use Rattle.line.specs.Contents.{messages1, messages3}
 
 abbrev pub upList : Task → ℕ → List Message
 upList p g = messages3 (upOf p g)
@@ -20,6 +20,10 @@ acrossList p b = messages1 (acrossOf p b)
 
 abbrev pub downList : Gate → ℕ → List Message
 downList k b = messages1 (downOf k b)
+
+-- the requests that wait at a task, the front first
+abbrev pub requestsOf : Task → List Request
+requestsOf p = take (p .count) (p .waiting)
 
 -- a line whose parties are these, with these log entries, the newest first
 abbrev pub lineWith : (ℕ → Task) → (ℕ → Gate) → List Request → Line

@@ -36,14 +36,14 @@ use Rattle.protocol.proofs.Moved.{announce-links, announcedGhost}
 use Rattle.protocol.proofs.Phases.{idle}
 use Rattle.protocol.proofs.Room.{up-room}
 use Rattle.protocol.proofs.Tokens.{inHand}
-use Rattle.line.specs.Contents.{messages1, messages3, requestsOf}
+use Rattle.line.specs.Contents.{messages1, messages3}
 use Rattle.link.proofs.Channels.{empty-count1, put-messages1, put-messages3, room3}
 use Rattle.link.proofs.Entries.{entries-more}
 use Rattle.link.proofs.Frame.{changed-at, set-row, swap-kept, swap-part, swap-row}
 use Rattle.link.proofs.Loops.{allowed, allowedIf, send, tell, withAcrosses, withUps}
 use Rattle.link.proofs.Shows.{Shows, allowed-shows, lineAt, own-across, own-up, shows-all}
 use Rattle.link.proofs.Tables.{Lawful, planOf}
-use Rattle.link.proofs.View.{acrossList, lineWith, upList}
+use Rattle.link.proofs.View.{acrossList, lineWith, upList, requestsOf}
 use Rattle.protocol.specs.Steps as step
 
 -- task b is Free

@@ -5,9 +5,15 @@ use mathlib.Core.Path.{_≡_, refl}
 use native.Mathlib.Omega.{arith}
 use lib.Dec.{ltb}
 use borrow.Author.Tests.{ltb-true}
-use Rattle.numbers.specs.Endpoints.{endpointOf, InRange}
+use Rattle.numbers.specs.Endpoints.{endpointOf}
 use Rattle.numbers.specs.declared.Endpoint.{Endpoint}
 use Rattle.numbers.specs.declared.Endpoint.the-variants.{Nobody, Task, Gate}
+
+-- a number that an endpoint gives lies below 16
+abbrev pub InRange : Endpoint → Type 0
+InRange Nobody = Unit {0}
+InRange (Task t) = t .0 < 16
+InRange (Gate g) = g .0 < 16
 
 either : (t : Bool) (a b : Endpoint) → InRange a → InRange b → InRange (cond t a b)
 either true a b p q = p

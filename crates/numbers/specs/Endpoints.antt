@@ -1,5 +1,5 @@
 -- "In a delivery, endpoints 0 to 15 are tasks and 16 to 31 are gates 0 to 15."
-use Prim.Native.Nat.{ℕ, _-_, _<_}
+use Prim.Native.Nat.{ℕ, _-_}
 use mathlib.Core.Bool.{cond}
 use lib.Dec.{ltb}
 use Rattle.numbers.specs.declared.Endpoint.{Endpoint}
@@ -11,9 +11,3 @@ endpointOf tasks gates e =
     cond (ltb e 16) (cond (ltb e tasks) (Task (record { 0 = e })) Nobody)
     (cond (ltb e 32) (cond (ltb (e - 16) gates) (Gate (record { 0 = e - 16 })) Nobody)
     Nobody)
-
--- a number that an endpoint gives lies below 16
-abbrev pub InRange : Endpoint → Type 0
-InRange Nobody = Unit {0}
-InRange (Task t) = t .0 < 16
-InRange (Gate g) = g .0 < 16

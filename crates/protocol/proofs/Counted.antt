@@ -10,15 +10,36 @@ use native.Mathlib.Omega.{arith}
 use lib.Dec.{eqb, ltb}
 use lib.ListN.{length}
 use borrow.Author.Tests.{eq-eqb, ltb-true, ltb-false, lt-ltb}
+use Rattle.channels.specs.declared.Message.{Message}
 use Rattle.channels.specs.declared.Request.{Request}
 use Rattle.protocol.specs.Plans.{Plan}
 use Rattle.protocol.specs.Lines.{Line}
-use Rattle.protocol.specs.Counts.{sumBelow, countOf, isFor, isLockOf, isResult, locksUp, locksDown, locksAcross, locksWaiting, resultsTo, underWay, dealing}
+use Rattle.protocol.specs.Counts.{sumBelow, countOf, isFor, isLockOf, isResult, dealing}
 use Rattle.protocol.proofs.Cases.{EqCase, same, diff, eq-case, eqb-same, eqb-diff, and-no}
 use Rattle.protocol.proofs.Tokens.{Token, home, sent, passed, queued, inHand, returned, dealOf, resultBy, upMessages, downMessages, vectorsOf, queuedAt, passedBy}
 use Rattle.protocol.proofs.Phases.{Phase, idle, undecided, decided, higherMessages, lowerMessages, passedFor}
 use Rattle.protocol.proofs.Invariant.{Ghost, PlanRight, Links, Invariant}
 use Rattle.protocol.proofs.Reading.{passed-nobody}
+
+-- Of what the channels and lists hold, over the tasks below n and the gates below m.
+module _ (n m : ℕ) (up down across : ℕ → ℕ → List Message) (waiting : ℕ → List Request) (g : ℕ) where
+  abbrev pub locksUp : ℕ
+  locksUp = sumBelow n (λ t. sumBelow m (λ x. countOf (isLockOf g) (up t x)))
+
+  abbrev pub locksDown : ℕ
+  locksDown = sumBelow m (λ x. sumBelow n (λ t. countOf (isLockOf g) (down x t)))
+
+  abbrev pub locksAcross : ℕ
+  locksAcross = sumBelow n (λ a. sumBelow n (λ b. countOf (isLockOf g) (across a b)))
+
+  abbrev pub locksWaiting : ℕ
+  locksWaiting = sumBelow n (λ t. countOf (isFor g) (waiting t))
+
+  abbrev pub resultsTo : ℕ
+  resultsTo = sumBelow n (λ t. countOf isResult (up t g))
+
+  abbrev pub underWay : ℕ
+  underWay = locksUp + (locksDown + (locksAcross + (locksWaiting + resultsTo)))
 
 sum-none : (n : ℕ) (f : ℕ → ℕ) → ((x : ℕ) → x < n → f x ≡ 0) → sumBelow n f ≡ 0
 unfolding sumBelow

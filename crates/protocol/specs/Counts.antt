@@ -33,26 +33,6 @@ isResult (Lock r) = false
 isResult (Commit x) = true
 isResult (Abort x) = true
 
--- Of what the channels and lists hold, over the tasks below n and the gates below m.
-module _ (n m : ℕ) (up down across : ℕ → ℕ → List Message) (waiting : ℕ → List Request) (g : ℕ) where
-  abbrev pub locksUp : ℕ
-  locksUp = sumBelow n (λ t. sumBelow m (λ x. countOf (isLockOf g) (up t x)))
-
-  abbrev pub locksDown : ℕ
-  locksDown = sumBelow m (λ x. sumBelow n (λ t. countOf (isLockOf g) (down x t)))
-
-  abbrev pub locksAcross : ℕ
-  locksAcross = sumBelow n (λ a. sumBelow n (λ b. countOf (isLockOf g) (across a b)))
-
-  abbrev pub locksWaiting : ℕ
-  locksWaiting = sumBelow n (λ t. countOf (isFor g) (waiting t))
-
-  abbrev pub resultsTo : ℕ
-  resultsTo = sumBelow n (λ t. countOf isResult (up t g))
-
-  abbrev pub underWay : ℕ
-  underWay = locksUp + (locksDown + (locksAcross + (locksWaiting + resultsTo)))
-
 -- "1 while g is Dealing and 0 while it is Idle"
 abbrev pub dealing : Deal → ℕ
 dealing Idle = 0

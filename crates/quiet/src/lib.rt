@@ -3,7 +3,8 @@ use channels::Channel1;
 use channels::Channel3;
 use state::State;
 ghost use mathlib.Core.Path.{_≡_};
-ghost use Rattle.quiet.specs.Quiet.{threesQuiet, onesQuiet, quiet};
+ghost use Rattle.quiet.specs.Quiet.{quiet};
+ghost use Rattle.quiet.specs.Parts.{threesQuiet, onesQuiet};
 
 pub fn quiet(s: State) -> bool
     ensures { λ r. ⌜ r ≡ quiet s ⌝ }

@@ -14,13 +14,11 @@ use Rattle.table.specs.Tables.{emptyTable}
 use Rattle.reader.specs.Rules.{Loading, loading, kindFault, fieldFault, withRecord, noneCame, afterRecord}
 use Rattle.reader.specs.declared.Loaded.{Loaded}
 
-abbrev pub orFields : Answer → Answer → Answer
-orFields head fields = cond (isDone head) fields head
-
 -- the first fault of the record at a place, after those before it
 unfoldable pub faultAt : List ℕ → ℕ → Loading → Answer
 faultAt file at l =
-    orFields (headFault file at (kindFault (l .table .tasks) (l .progress) (kindAt file at))) (fieldFault l (recordAt file at))
+    let head = headFault file at (kindFault (l .table .tasks) (l .progress) (kindAt file at)) in
+    cond (isDone head) (fieldFault l (recordAt file at)) head
 
 -- what is read with the record at a place
 unfoldable pub withRecordAt : List ℕ → ℕ → Loading → Loading

@@ -7,12 +7,14 @@ use mathlib.Core.Path.{_≡_, refl, sym, ap, subst, _∙_}
 use native.Mathlib.Omega.{arith}
 use lib.Dec.{ltb}
 use borrow.Author.Tests.{ltb-true, ltb-false, lt-ltb, le-ltb}
-use Rattle.laws.specs.Below.{firstFrom, lastBelow}
+use Rattle.laws.specs.Below.{firstFrom}
+use Rattle.laws.specs.Last.{lastBelow}
 use Rattle.laws.proofs.Searches.{First, first-says, first-is, Last, found, nowhere, last-says, last-is}
 use Rattle.laws.proofs.Tests.{le-or-lt}
 use Rattle.numbers.specs.declared.TaskNo.{TaskNo}
 use Rattle.sets.specs.declared.Found.the-variants.{Nobody, Task}
-use Rattle.sets.specs.Sets.{memberOf, foundOf, lowestOf, nextAboveOf, highestOf}
+use Rattle.sets.specs.Sets.{memberOf, foundOf, lowestOf, nextAboveOf}
+use Rattle.sets.specs.Highest.{highestOf}
 
 -- t is the first member from a number on
 pub record FirstMember (set from : ℕ) (t : TaskNo) : Type 0 where

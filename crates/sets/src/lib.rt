@@ -1,7 +1,8 @@
 // A set of tasks is a mask of 16 bits: bit t is task t.
 use numbers::TaskNo;
 ghost use mathlib.Core.Path.{_≡_};
-ghost use Rattle.sets.specs.Sets.{memberOf, subsetOf, allBelowOf, unionOf, minusOf, withOf, withoutOf, lowestOf, nextAboveOf, highestOf, aloneOf, foundOf};
+ghost use Rattle.sets.specs.Sets.{memberOf, subsetOf, allBelowOf, unionOf, minusOf, withOf, withoutOf, lowestOf, nextAboveOf, aloneOf, foundOf};
+ghost use Rattle.sets.specs.Highest.{highestOf};
 ghost use Prim.Native.Nat.{_≤_, _-_};
 ghost use Rattle.laws.specs.Below.{firstFrom};
 

@@ -18,7 +18,8 @@ use Rattle.channels.specs.declared.Channel1.{Channel1}
 use Rattle.channels.specs.declared.Channel3.{Channel3}
 use Rattle.state.specs.States.{taskOf, gateOf}
 use Rattle.state.specs.declared.State.{State}
-use Rattle.sound_state.specs.SoundState.{isNoRequest, place, room, upFits, upSound, upsSound, oneSound, waitingsSound, taskSound, gateSound, soundState}
+use Rattle.sound_state.specs.SoundState.{isNoRequest, upFits, upSound, taskSound, gateSound, soundState}
+use Rattle.sound_state.specs.Parts.{oneSound, place, room, upsSound, waitingsSound}
 use Rattle.sound_state.specs.Quiet.{noneWaits, isEmpty, isSilent, isReadyOnly, allReady}
 
 -- a test that holds wherever another does

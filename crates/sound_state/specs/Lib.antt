@@ -1,2 +1,3 @@
 pub mod SoundState
+pub mod Parts
 pub mod Quiet

@@ -10,7 +10,8 @@ use Rattle.channels.specs.Channels.{noRequest, isReady, empty1, empty3}
 use Rattle.channels.specs.declared.Request.{Request}
 use Rattle.channels.specs.declared.Channel1.{Channel1}
 use Rattle.channels.specs.declared.Channel3.{Channel3}
-use Rattle.sound_state.specs.SoundState.{isNoRequest, room}
+use Rattle.sound_state.specs.SoundState.{isNoRequest}
+use Rattle.sound_state.specs.Parts.{room}
 
 abbrev pub unusedAt : List Request → ℕ → Bool
 unusedAt waiting i = isNoRequest (getD waiting i noRequest)

@@ -9,13 +9,13 @@ use Rattle.sets.specs.Sets.{memberOf, allBelowOf, nextAboveOf}
 use Rattle.sets.specs.declared.Found.{Found}
 use Rattle.sets.specs.declared.Found.the-variants as found
 use Rattle.table.specs.Tables.{maskOf}
-use Rattle.channels.specs.Channels.{noRequest, isReady, empty1, empty3}
+use Rattle.channels.specs.Channels.{noRequest, isReady}
 use Rattle.channels.specs.declared.Request.{Request}
 use Rattle.channels.specs.declared.Message.{Message}
 use Rattle.channels.specs.declared.Message.the-variants.{Ready, Lock, Commit, Abort}
 use Rattle.channels.specs.declared.Channel1.{Channel1}
 use Rattle.channels.specs.declared.Channel3.{Channel3}
-use Rattle.state.specs.States.{taskOf, gateOf}
+use Rattle.state.specs.States.{taskOf, gateOf, upOf, acrossOf, downOf}
 use Rattle.state.specs.declared.Mode.{Mode}
 use Rattle.state.specs.declared.Mode.the-variants.{Free, Held}
 use Rattle.state.specs.declared.Deal.{Deal}
@@ -28,20 +28,9 @@ abbrev pub isSomebody : Found → Bool
 isSomebody found.Nobody = false
 isSomebody (found.Task t) = true
 
--- Unused room is the filler: a place of a list or a channel that is used holds what fits there.
-abbrev pub place : Bool → Bool → Bool → Bool
-place used fits empty = cond used fits empty
-
+-- the filler of a waiting list
 abbrev pub isNoRequest : Request → Bool
 isNoRequest r = eqb (r .gate .0) 0 && eqb (r .vector) 0
-
--- "task states in range"; "absent parties .. are empty"
-abbrev pub stateSound : Bool → ℕ → ℕ → Bool
-stateSound present states x = cond present (ltb x states) (eqb x 0)
-
--- room there is only between parties that are present
-abbrev pub room : Bool → ℕ → ℕ
-room present n = cond present n 0
 
 -- what a task may send gate g: "READY, COMMIT and ABORT", and a result "on its way to a gate .. names that gate"
 abbrev pub upFits : ℕ → Message → Bool
@@ -50,23 +39,18 @@ upFits g (Lock r) = false
 upFits g (Commit h) = eqb (h .0) g
 upFits g (Abort h) = eqb (h .0) g
 
--- "channels within room, with only the kinds their pair can send"
+-- "channels within room, with only the kinds their pair can send"; room there is only between parties that are present,
+-- and what is unused holds the filler
 abbrev pub upSound : Bool → ℕ → Channel3 → Bool
 upSound present g c =
-    leb (c .count) (room present 3)
-    && (place (ltb 0 (c .count)) (upFits g (c .first)) (isReady (c .first))
-    && (place (ltb 1 (c .count)) (upFits g (c .second)) (isReady (c .second))
-    && place (ltb 2 (c .count)) (upFits g (c .third)) (isReady (c .third))))
+    leb (c .count) (cond present 3 0)
+    && (cond (ltb 0 (c .count)) (upFits g (c .first)) (isReady (c .first))
+    && (cond (ltb 1 (c .count)) (upFits g (c .second)) (isReady (c .second))
+    && cond (ltb 2 (c .count)) (upFits g (c .third)) (isReady (c .third))))
 
-abbrev pub upAt : Bool → ℕ → List Channel3 → ℕ → Bool
-upAt present gates up g = upSound (present && ltb g gates) g (getD up g empty3)
-
-abbrev pub upsSound : Bool → ℕ → List Channel3 → Bool
-upsSound present gates up = allBelow 16 (upAt present gates up)
-
--- a channel for one message, of which fits says whether its pair can send it
-abbrev pub oneSound : Bool → Bool → Channel1 → Bool
-oneSound present fits c = leb (c .count) (room present 1) && place (ltb 0 (c .count)) fits (isReady (c .first))
+-- the same of a channel for one message, where fits says what its pair can send
+abbrev pub channelSound : Bool → (Message → Bool) → Channel1 → Bool
+channelSound present fits c = leb (c .count) (cond present 1 0) && cond (ltb 0 (c .count)) (fits (c .first)) (isReady (c .first))
 
 -- "Dealing names an existing vector"
 abbrev pub dealSound : List ℕ → ℕ → Deal → Bool
@@ -84,14 +68,9 @@ module _ (vectors masks : List ℕ) where
   modeSound t count Free = eqb count 0
   modeSound t count (Held r) = names t r && isSomebody (nextAboveOf (maskOf masks (r .gate .0) (r .vector)) t)
 
+  -- a place of the waiting list: what is unused holds the filler
   abbrev pub waitingSound : ℕ → Bool → Request → Bool
-  waitingSound t used r = place used (names t r) (isNoRequest r)
-
-  abbrev pub waitingAt : ℕ → ℕ → List Request → ℕ → Bool
-  waitingAt t count waiting i = waitingSound t (ltb i count) (getD waiting i noRequest)
-
-  abbrev pub waitingsSound : ℕ → ℕ → List Request → Bool
-  waitingsSound t count waiting = allBelow 16 (waitingAt t count waiting)
+  waitingSound t used r = cond used (names t r) (isNoRequest r)
 
   -- what task a may send task b: "higher tasks LOCK, lower tasks COMMIT and ABORT"; "a result names a present gate"
   abbrev pub acrossFits : ℕ → ℕ → ℕ → Message → Bool
@@ -107,33 +86,23 @@ module _ (vectors masks : List ℕ) where
   downFits g b (Commit h) = false
   downFits g b (Abort h) = false
 
-  abbrev pub acrossAt : ℕ → ℕ → Bool → ℕ → List Channel1 → ℕ → Bool
-  acrossAt tasks gates present a across b =
-      oneSound (present && ltb b tasks) (acrossFits gates a b (getD across b empty1 .first)) (getD across b empty1)
-
-  abbrev pub acrossesSound : ℕ → ℕ → Bool → ℕ → List Channel1 → Bool
-  acrossesSound tasks gates present a across = allBelow 16 (acrossAt tasks gates present a across)
-
-  abbrev pub downAt : ℕ → Bool → ℕ → List Channel1 → ℕ → Bool
-  downAt tasks present g down b =
-      oneSound (present && ltb b tasks) (downFits g b (getD down b empty1 .first)) (getD down b empty1)
-
-  abbrev pub downsSound : ℕ → Bool → ℕ → List Channel1 → Bool
-  downsSound tasks present g down = allBelow 16 (downAt tasks present g down)
-
-  -- Of the table also its counts; of a task how many states it has.
+  -- Of the table also its counts.
   module _ (tasks gates : ℕ) where
+    -- task t, which has these many states: "task states in range", its mode, its list, and what it sends each gate and
+    -- each task; "absent parties .. are empty"
     unfoldable pub taskSound : ℕ → ℕ → Task → Bool
     taskSound t states p =
-        (stateSound (ltb t tasks) states (p .state) && (modeSound t (p .count) (p .mode) && leb (p .count) 16))
-        && (waitingsSound t (p .count) (p .waiting)
-        && (upsSound (ltb t tasks) gates (p .up) && acrossesSound tasks gates (ltb t tasks) t (p .across)))
+        (cond (ltb t tasks) (ltb (p .state) states) (eqb (p .state) 0)
+        && (modeSound t (p .count) (p .mode) && leb (p .count) 16))
+        && (allBelow 16 (λ (i : ℕ). waitingSound t (ltb i (p .count)) (getD (p .waiting) i noRequest))
+        && (allBelow 16 (λ (g : ℕ). upSound (ltb t tasks && ltb g gates) g (upOf p g))
+        && allBelow 16 (λ (b : ℕ). channelSound (ltb t tasks && ltb b tasks) (acrossFits gates t b) (acrossOf p b))))
 
-    -- "offers name present tasks"; an absent gate has none
+    -- "offers name present tasks", and what the gate sends each task; an absent gate is empty
     unfoldable pub gateSound : ℕ → Gate → Bool
     gateSound g k =
-        (allBelowOf (k .offers) (room (ltb g gates) tasks) && dealSound vectors g (k .deal))
-        && downsSound tasks (ltb g gates) g (k .down)
+        (allBelowOf (k .offers) (cond (ltb g gates) tasks 0) && dealSound vectors g (k .deal))
+        && allBelow 16 (λ (b : ℕ). channelSound (ltb g gates && ltb b tasks) (downFits g b) (downOf k b))
 
     unfoldable pub soundState : List ℕ → State → Bool
     soundState states s =

@@ -11,7 +11,7 @@ use Rattle.laws.proofs.Numbers.{below-same, below-rows, each-below}
 use Rattle.laws.proofs.Stores.{zero-at}
 use Rattle.table.specs.Tables.{cellOf}
 use Rattle.table.specs.declared.Table.{Table}
-use Rattle.soundness.specs.Sound.{mostAt, moveSound, movesSound}
+use Rattle.soundness.specs.Sound.{mostAt, movesSound}
 
 -- the cell of a row at gate g
 abbrev pub cellFits : List ℕ → ℕ → List ℕ → ℕ → Bool
@@ -24,6 +24,10 @@ rowFits moves t states limits x = allBelow 16 (cellFits moves (t * 16 + x) (cond
 -- the moves of task t
 abbrev pub movesFit : Table → ℕ → Bool
 movesFit T t = allBelow 16 (λ (x : ℕ). allBelow 16 (λ (g : ℕ). leb (getD (T .moves) (cellOf t x g) 0) (mostAt T t x g)))
+
+-- cell i holds n
+abbrev pub moveSound : Table → ℕ → ℕ → Bool
+moveSound T i n = leb n (mostAt T (i / 256) (i / 16 % 16) (i % 16))
 
 pub cell-sound : (T : Table) (t x g n : ℕ) → x < 16 → g < 16 → moveSound T (cellOf t x g) n ≡ leb n (mostAt T t x g)
 cell-sound T t x g n hx hg =

@@ -16,7 +16,8 @@ use Rattle.table.specs.declared.Table.{Table}
 use Rattle.table.specs.declared.Move.the-variants.{To}
 use Rattle.table.proofs.Cells.{InRoom, in-room, entryOf, entry-at}
 use Rattle.soundness.proofs.Rows.{cell-sound}
-use Rattle.soundness.specs.Sound.{taskFits, taskSound, mostAt, moveSound, movesSound, vectorFits, gateSound, soundTable}
+use Rattle.soundness.specs.Sound.{taskFits, taskSound, mostAt, movesSound, vectorFits, gateSound, soundTable}
+use Rattle.soundness.proofs.Rows.{moveSound}
 
 pub record Rules (T : Table) : Type 0 where
   -- "1 to 16 tasks, 1 to 16 gates, 1 to 16 states a task"

@@ -23,11 +23,8 @@ abbrev pub mostAt : Table → ℕ → ℕ → ℕ → ℕ
 mostAt T t x g = cond (ltb x (getD (T .states) t 0) && ltb g (T .gates)) (getD (T .states) t 0) 0
 
 -- cell i is that of task i / 256, state i / 16 % 16 and gate i % 16
-abbrev pub moveSound : Table → ℕ → ℕ → Bool
-moveSound T i n = leb n (mostAt T (i / 256) (i / 16 % 16) (i % 16))
-
 unfoldable pub movesSound : Table → Bool
-movesSound T = allFrom (moveSound T) 0 (T .moves)
+movesSound T = allFrom (λ (i n : ℕ). leb n (mostAt T (i / 256) (i / 16 % 16) (i % 16))) 0 (T .moves)
 
 -- vector v of gate g: a mask "neither 0 nor names an absent task", and none before it at that gate; else empty
 abbrev pub vectorFits : List ℕ → ℕ → ℕ → ℕ → ℕ → Bool

@@ -24,29 +24,24 @@ use Rattle.state.specs.declared.PoppedGate.{PoppedGate}
 use Rattle.state.specs.declared.Popped.{Popped}
 use Rattle.state.specs.declared.PutTask.{PutTask}
 use Rattle.state.specs.declared.PutGate.{PutGate}
-use Rattle.state.specs.declared.Put.{Put}
 
--- "An empty task is at state 0, Free, nothing waiting; an empty gate is Idle, no offers. The empty state has all
--- parties and channels empty and log count 0."
+-- "An empty task is at state 0, Free, nothing waiting": with this room for what waits and for what it sends
+abbrev pub emptyWith : List Request → List Channel3 → List Channel1 → Task
+emptyWith waiting up across = record { state = 0; mode = Free; count = 0; waiting = waiting; up = up; across = across }
+
 abbrev pub emptyTask : Task
-emptyTask = record {
-  state = 0;
-  mode = Free;
-  count = 0;
-  waiting = replicate 16 noRequest;
-  up = replicate 16 empty3;
-  across = replicate 16 empty1;
-}
+emptyTask = emptyWith (replicate 16 noRequest) (replicate 16 empty3) (replicate 16 empty1)
 
+-- "an empty gate is Idle, no offers. The empty state has all parties and channels empty and log count 0."
 abbrev pub emptyGate : Gate
 emptyGate = record { offers = 0; deal = Idle; down = replicate 16 empty1 }
 
 abbrev pub emptyState : State
 emptyState = record { tasks = replicate 16 emptyTask; gates = replicate 16 emptyGate; logged = 0 }
 
--- what stands outside the 16 tasks and the 16 gates
+-- what stands outside the 16 tasks and the 16 gates, and has no room
 abbrev pub noTask : Task
-noTask = record { state = 0; mode = Free; count = 0; waiting = []; up = []; across = [] }
+noTask = emptyWith [] [] []
 
 abbrev pub noGate : Gate
 noGate = record { offers = 0; deal = Idle; down = [] }
@@ -146,14 +141,3 @@ abbrev pub popOf : State → Link → Popped
 popOf s (ToGate t g) = afterTaskPop s (t .0) (popUp (taskOf s (t .0)) (g .0))
 popOf s (FromGate g t) = afterGatePop s (g .0) (popDown (gateOf s (g .0)) (t .0))
 popOf s (ToTask t b) = afterTaskPop s (t .0) (popAcross (taskOf s (t .0)) (b .0))
-
-abbrev afterTaskPut : State → ℕ → PutTask → Put
-afterTaskPut s t p = record { state = withTask s t (p .task); room = p .room }
-
-abbrev afterGatePut : State → ℕ → PutGate → Put
-afterGatePut s g p = record { state = withGate s g (p .gate); room = p .room }
-
-abbrev pub putOf : State → Link → Message → Put
-putOf s (ToGate t g) m = afterTaskPut s (t .0) (putUp (taskOf s (t .0)) (g .0) m)
-putOf s (FromGate g t) m = afterGatePut s (g .0) (putDown (gateOf s (g .0)) (t .0) m)
-putOf s (ToTask t b) m = afterTaskPut s (t .0) (putAcross (taskOf s (t .0)) (b .0) m)

@@ -8,7 +8,8 @@ use numbers::GateNo;
 use numbers::TaskNo;
 ghost use mathlib.Core.Path.{_≡_};
 ghost use Rattle.state.specs.States.{emptyTask, emptyGate, emptyState, atState, withMode, withAllUp, withAllAcross, withLast, movedUp, withoutFront};
-ghost use Rattle.state.specs.States.{frontOf, popUp, putUp, popAcross, putAcross, popDown, putDown, popOf, putOf};
+ghost use Rattle.state.specs.States.{frontOf, popUp, putUp, popAcross, putAcross, popDown, putDown, popOf};
+ghost use Rattle.state.specs.Parts.{putOf};
 
 pub enum Mode {
     Free,

@@ -9,17 +9,14 @@ use Rattle.table.specs.declared.Table.{Table}
 use Rattle.table.specs.declared.Move.{Move}
 use Rattle.table.specs.declared.Move.the-variants.{Nowhere, To}
 
+-- a table by its parts: of each task its states and start, the cells, of each gate how many vectors, and their masks
+abbrev pub tableOf : ℕ → ℕ → List ℕ → List ℕ → List ℕ → List ℕ → List ℕ → Table
+tableOf tasks gates states starts moves vectors masks =
+    record { tasks = tasks; gates = gates; states = states; starts = starts; moves = moves; vectors = vectors; masks = masks }
+
 -- "The empty table has 0 tasks and 0 gates."
 abbrev pub emptyTable : Table
-emptyTable = record {
-  tasks = 0;
-  gates = 0;
-  states = replicate 16 0;
-  starts = replicate 16 0;
-  moves = replicate 4096 0;
-  vectors = replicate 16 0;
-  masks = replicate 128 0;
-}
+emptyTable = tableOf 0 0 (replicate 16 0) (replicate 16 0) (replicate 4096 0) (replicate 16 0) (replicate 128 0)
 
 -- a count of tasks, gates or states: "1 to 16 tasks, 1 to 16 gates, 1 to 16 states a task"
 abbrev pub countIn : ℕ → Bool
@@ -57,51 +54,20 @@ newBelow masks g n mask = allBelow n (λ (v : ℕ). not (eqb (maskOf masks g v) 
 
 -- The table with the counts; with a task; with a transition; with one more vector. What finds no room is left out.
 abbrev pub withCounts : Table → ℕ → ℕ → Table
-withCounts T tasks gates = record {
-  tasks = tasks;
-  gates = gates;
-  states = T .states;
-  starts = T .starts;
-  moves = T .moves;
-  vectors = T .vectors;
-  masks = T .masks;
-}
+withCounts T tasks gates = tableOf tasks gates (T .states) (T .starts) (T .moves) (T .vectors) (T .masks)
 
 abbrev pub withTask : Table → ℕ → ℕ → ℕ → Table
-withTask T t states start = record {
-  tasks = T .tasks;
-  gates = T .gates;
-  states = set (T .states) t states;
-  starts = set (T .starts) t start;
-  moves = T .moves;
-  vectors = T .vectors;
-  masks = T .masks;
-}
+withTask T t states start =
+    tableOf (T .tasks) (T .gates) (set (T .states) t states) (set (T .starts) t start) (T .moves) (T .vectors) (T .masks)
 
 abbrev pub withMoves : Table → List ℕ → Table
-withMoves T moves = record {
-  tasks = T .tasks;
-  gates = T .gates;
-  states = T .states;
-  starts = T .starts;
-  moves = moves;
-  vectors = T .vectors;
-  masks = T .masks;
-}
+withMoves T moves = tableOf (T .tasks) (T .gates) (T .states) (T .starts) moves (T .vectors) (T .masks)
 
 abbrev pub withMove : Table → ℕ → ℕ → ℕ → ℕ → Table
 withMove T t x g y = cond (isCell t x g && ltb y 16) (withMoves T (set (T .moves) (cellOf t x g) (y + 1))) T
 
 abbrev pub withMasks : Table → List ℕ → List ℕ → Table
-withMasks T vectors masks = record {
-  tasks = T .tasks;
-  gates = T .gates;
-  states = T .states;
-  starts = T .starts;
-  moves = T .moves;
-  vectors = vectors;
-  masks = masks;
-}
+withMasks T vectors masks = tableOf (T .tasks) (T .gates) (T .states) (T .starts) (T .moves) vectors masks
 
 abbrev pub withVector : Table → ℕ → ℕ → Table
 withVector T g m =

@@ -5,8 +5,7 @@ use borrow.Author.Needs.{needs}
 use borrow.Author.Tests.{not-false}
 use Rattle.delivery.specs.Delivery.{delivered, between, wayOf}
 use Rattle.delivery.specs.Within.{WayWithin}
-use Rattle.numbers.proofs.Resolved.{in-range}
-use Rattle.numbers.specs.Endpoints.{InRange}
+use Rattle.numbers.proofs.Resolved.{InRange, in-range}
 use Rattle.delivery.proofs.Counted.{count-fits}
 use Rattle.delivery.proofs.Ways.{way-within, end-within}
 use Rattle.delivery.proofs.deliver.Statement.{statement}

@@ -1,10 +1,11 @@
 -- `settled` meets its contract: each return has passed the tests before it, so that the entries find room.
+use Prim.Native.Nat.{_-_, _/_}
 use mathlib.Core.Bool.{true, false}
 use mathlib.Core.Path.{_≡_}
 use lib.Dec.{ltb}
+use lib.ListN.{length}
 use borrow.Author.Needs.{needs}
 use borrow.Author.Tests.{lt-ltb, le-ltb}
-use Rattle.delivery.specs.Delivery.{freeRoom}
 use Rattle.delivery.proofs.settled.Statement.{statement}
 use Rattle.delivery.proofs.settled.Tie as tie
 
@@ -23,7 +24,7 @@ cast-if2 c = search needs
 returns-2 : tie.Need-returns-2
 returns-2 c =
     let a = c .before .before .before .before .before .before .args in
-    let full : ltb (freeRoom (a .s) (a .log .now)) (a .w .fired) ≡ true = lt-ltb _ _ (c .if2 .taken) in
+    let full : ltb (length (a .log .now) / 2 - a .s .logged) (a .w .fired) ≡ true = lt-ltb _ _ (c .if2 .taken) in
     (rw (c .before .before .if1 .left, full), rw (c .before .before .if1 .left, full))
 
 mul-task : tie.Need-mul-task
@@ -47,7 +48,7 @@ same-length c = search needs
 returns-3 : tie.Need-returns-3
 returns-3 c =
     let a = c .before .before .before .before .before .before .before .before .before .before .before .before .before .args in
-    let room : ltb (freeRoom (a .s) (a .log .now)) (a .w .fired) ≡ false = le-ltb _ _ (c .before .before .before .before .before .before .before .if2 .left) in
+    let room : ltb (length (a .log .now) / 2 - a .s .logged) (a .w .fired) ≡ false = le-ltb _ _ (c .before .before .before .before .before .before .before .if2 .left) in
     (rw (c .before .before .before .before .before .before .before .before .before .if1 .left, room), rw (c .before .before .before .before .before .before .before .before .before .if1 .left, room) (c .before .before .write .ensures))
 
 pub settled-spec : {M : Type 1} → statement M

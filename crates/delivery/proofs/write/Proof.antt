@@ -4,7 +4,8 @@ use mathlib.Core.Path.{_≡_, refl, sym, ap, _∙_}
 use native.Mathlib.Omega.{arith}
 use lib.ListN.{length, length-set}
 use borrow.Author.Needs.{needs}
-use Rattle.delivery.specs.Delivery.{writtenAt, written}
+use Rattle.delivery.specs.Delivery.{written}
+use Rattle.delivery.proofs.Written.{writtenAt}
 use Rattle.laws.proofs.Turning.{turn-more}
 use Rattle.laws.specs.Turns.{upTo}
 use Rattle.delivery.proofs.write.Statement.{statement}

@@ -5,7 +5,7 @@ use native.Mathlib.Omega.{arith}
 use borrow.Author.Needs.{needs}
 use Rattle.laws.proofs.Numbers.{below-none, below-turn}
 use Rattle.laws.specs.Below.{allBelow}
-use Rattle.quiet.specs.Quiet.{oneQuiet}
+use Rattle.quiet.specs.Parts.{oneQuiet}
 use Rattle.quiet.proofs.ones_quiet.Statement.{statement}
 use Rattle.quiet.proofs.ones_quiet.Tie as tie
 

@@ -5,7 +5,7 @@ use native.Mathlib.Omega.{arith}
 use borrow.Author.Needs.{needs}
 use Rattle.laws.proofs.Numbers.{below-none, below-turn}
 use Rattle.laws.specs.Below.{allBelow}
-use Rattle.quiet.specs.Quiet.{threeQuiet}
+use Rattle.quiet.specs.Parts.{threeQuiet}
 use Rattle.quiet.proofs.threes_quiet.Statement.{statement}
 use Rattle.quiet.proofs.threes_quiet.Tie as tie
 

@@ -5,7 +5,7 @@ use native.Mathlib.Omega.{arith}
 use borrow.Author.Needs.{needs}
 use borrow.Author.Tests.{lt-ltb, eq-eqb, ne-eqb}
 use Rattle.laws.proofs.Searches.{last-here, last-lower, last-end}
-use Rattle.laws.specs.Below.{lastBelow}
+use Rattle.laws.specs.Last.{lastBelow}
 use Rattle.sets.specs.Sets.{memberOf}
 use Rattle.sets.proofs.highest.Statement.{statement}
 use Rattle.sets.proofs.highest.Tie as tie

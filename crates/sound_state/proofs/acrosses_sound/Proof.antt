@@ -10,7 +10,8 @@ use Rattle.channels.specs.Channels.{empty1}
 use Rattle.laws.proofs.Numbers.{below-none, below-turn}
 use Rattle.laws.specs.Below.{allBelow}
 use Rattle.sound_state.proofs.Keep.{silent-sound}
-use Rattle.sound_state.specs.SoundState.{acrossFits, acrossAt}
+use Rattle.sound_state.specs.SoundState.{acrossFits}
+use Rattle.sound_state.specs.Parts.{acrossAt}
 use Rattle.sound_state.proofs.acrosses_sound.Statement.{statement}
 use Rattle.sound_state.proofs.acrosses_sound.Tie as tie
 

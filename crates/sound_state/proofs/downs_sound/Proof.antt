@@ -10,7 +10,8 @@ use Rattle.channels.specs.Channels.{empty1}
 use Rattle.laws.proofs.Numbers.{below-none, below-turn}
 use Rattle.laws.specs.Below.{allBelow}
 use Rattle.sound_state.proofs.Keep.{silent-sound}
-use Rattle.sound_state.specs.SoundState.{downFits, downAt}
+use Rattle.sound_state.specs.SoundState.{downFits}
+use Rattle.sound_state.specs.Parts.{downAt}
 use Rattle.sound_state.proofs.downs_sound.Statement.{statement}
 use Rattle.sound_state.proofs.downs_sound.Tie as tie
 

@@ -6,7 +6,7 @@ use borrow.Author.Needs.{needs}
 use Rattle.laws.proofs.Numbers.{below-none, below-turn}
 use Rattle.laws.specs.Below.{allBelow}
 use Rattle.sound_state.proofs.Keep.{ready-sound}
-use Rattle.sound_state.specs.SoundState.{upAt}
+use Rattle.sound_state.specs.Parts.{upAt}
 use Rattle.sound_state.proofs.ups_sound.Statement.{statement}
 use Rattle.sound_state.proofs.ups_sound.Tie as tie
 

@@ -9,7 +9,7 @@ use Rattle.laws.proofs.Numbers.{below-none, below-turn}
 use Rattle.laws.proofs.Tests.{and-left, and-right}
 use Rattle.laws.specs.Below.{allBelow}
 use Rattle.sound_state.proofs.Keep.{none-sound}
-use Rattle.sound_state.specs.SoundState.{waitingAt}
+use Rattle.sound_state.specs.Parts.{waitingAt}
 use Rattle.sound_state.proofs.waitings_sound.Statement.{statement}
 use Rattle.sound_state.proofs.waitings_sound.Tie as tie
 
