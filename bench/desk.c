@@ -1,5 +1,10 @@
 // The paper's rules in plain C, for the benchmark: structs and arrays by pointer, and nothing of the shape
 // that the proofs ask for. It is written from docs/PAPER.md; main.c uses it.
+//
+// Built with -DTUNED it does the same by what a programmer would do who counts instructions: a test of a run of
+// bytes has no early exit, so that the compiler compares them side by side; an empty channel is told by one
+// comparison; and a delivery works on the state itself and keeps a list of what it has sent, to take it back where it
+// is refused. The plain one stops at the first fault, and works on a copy of the task.
 #include <stdbool.h>
 #include <stddef.h>
 #include <stdint.h>
@@ -200,10 +205,42 @@ static enum answer read_schedule(const uint8_t *file, size_t size, size_t *count
 static bool is_zero(const void *bytes, size_t size)
 {
     const uint8_t *b = bytes;
+#ifdef TUNED
     uint8_t any = 0;
     for (size_t i = 0; i < size; i++)
         any |= b[i];
     return any == 0;
+#else
+    for (size_t i = 0; i < size; i++)
+        if (b[i] != 0)
+            return false;
+    return true;
+#endif
+}
+
+static bool is_empty1(const struct channel1 *c)
+{
+#ifdef TUNED
+    return memcmp(c, &empty1, sizeof *c) == 0;
+#else
+    return is_zero(c, sizeof *c);
+#endif
+}
+
+// Whether a row of cells leads to none but the first states, at none but the first gates.
+static bool sound_row(const uint8_t row[GATES], int gates, int states)
+{
+#ifdef TUNED
+    bool bad = false;
+    for (int g = 0; g < GATES; g++)
+        bad |= row[g] > (g < gates ? states : 0);
+    return !bad;
+#else
+    for (int g = 0; g < GATES; g++)
+        if (row[g] > (g < gates ? states : 0))
+            return false;
+    return true;
+#endif
 }
 
 static bool sound_moves(const struct table *table)
@@ -212,13 +249,9 @@ static bool sound_moves(const struct table *table)
         int states = table->states[t];
         if (!is_zero(table->moves[t][states], (STATES - states) * sizeof table->moves[t][0]))
             return false;
-        for (int x = 0; x < states; x++) {
-            bool bad = false;
-            for (int g = 0; g < GATES; g++)
-                bad |= table->moves[t][x][g] > (g < table->gates ? states : 0);
-            if (bad)
+        for (int x = 0; x < states; x++)
+            if (!sound_row(table->moves[t][x], table->gates, states))
                 return false;
-        }
     }
     return true;
 }
@@ -265,8 +298,10 @@ static bool names(const struct table *table, unsigned gate, unsigned vector, int
 
 static bool sound_up(const struct channel3 *c, int g)
 {
+#ifdef TUNED
     if (c->count == 0)
         return memcmp(c, &empty3, sizeof *c) == 0;
+#endif
     if (c->count > 3)
         return false;
     for (int i = 0; i < c->count; i++) {
@@ -310,7 +345,7 @@ static bool sound_task(const struct table *table, const struct task *task, int t
         return false;
     for (int b = 0; b < table->tasks; b++) {
         const struct channel1 *c = &task->across[b];
-        if (c->count == 0 ? memcmp(c, &empty1, sizeof *c) : c->count > 1 || !sound_across(table, &c->first, t, b))
+        if (c->count == 0 ? !is_empty1(c) : c->count > 1 || !sound_across(table, &c->first, t, b))
             return false;
     }
     return is_zero(&task->across[table->tasks], (TASKS - table->tasks) * sizeof task->across[0]);
@@ -325,7 +360,7 @@ static bool sound_gate(const struct table *table, const struct gate *gate, int g
     for (int b = 0; b < table->tasks; b++) {
         const struct channel1 *c = &gate->down[b];
         const struct message *m = &c->first;
-        if (c->count == 0 ? memcmp(c, &empty1, sizeof *c)
+        if (c->count == 0 ? !is_empty1(c)
                           : c->count > 1 || m->kind != LOCK || m->gate != g || !names(table, g, m->vector, b))
             return false;
     }
@@ -346,16 +381,20 @@ static bool sound_state(const struct table *table, const struct state *state)
 
 // ---- "What a delivery does"
 
-// What a delivery has done at its task: the entries it fires, and what it has sent, so that a refusal can take it back.
+// What a delivery has done at its task: the entries it fires and, where it works on the state itself, what it has
+// sent.
 struct work {
     const struct table *table;
     struct task *task;
     int number;
     bool ok;
-    unsigned fired, sent;
-    uint16_t across;
+    unsigned fired;
     struct request entries[WAITING];
+#ifdef TUNED
+    unsigned sent;
+    uint16_t across;
     uint8_t up[GATES * 3];
+#endif
 };
 
 static void put_up(struct work *w, int g, struct message message)
@@ -366,7 +405,9 @@ static void put_up(struct work *w, int g, struct message message)
         return;
     }
     c->at[c->count++] = message;
+#ifdef TUNED
     w->up[w->sent++] = g;
+#endif
 }
 
 static void put_across(struct work *w, int b, struct message message)
@@ -378,9 +419,12 @@ static void put_across(struct work *w, int b, struct message message)
     }
     c->count = 1;
     c->first = message;
+#ifdef TUNED
     w->across |= 1u << b;
+#endif
 }
 
+#ifdef TUNED
 static void take_back(struct work *w)
 {
     while (w->sent > 0) {
@@ -390,6 +434,7 @@ static void take_back(struct work *w)
     for (unsigned rest = w->across; rest; rest &= rest - 1)
         w->task->across[__builtin_ctz(rest)] = empty1;
 }
+#endif
 
 static void announce(struct work *w)
 {
@@ -487,6 +532,7 @@ static enum answer to_task(const struct table *table, struct state *state, uint8
     struct task *task = &state->tasks[b];
     if (channel->count == 0)
         return CHANNEL_EMPTY;
+#ifdef TUNED
     struct { uint8_t state, held, count; struct request by, waiting[WAITING]; } before;
     memcpy(&before, task, sizeof before);
     struct work w;
@@ -501,6 +547,21 @@ static enum answer to_task(const struct table *table, struct state *state, uint8
         memcpy(task, &before, sizeof before);
         return w.ok ? LOG_FULL : EXCLUDED;
     }
+#else
+    struct task copy = *task;
+    struct work w;
+    w.table = table;
+    w.task = &copy;
+    w.number = b;
+    w.ok = true;
+    w.fired = 0;
+    at_task(&w, channel->first);
+    if (!w.ok)
+        return EXCLUDED;
+    if (w.fired > size / 2 - state->logged)
+        return LOG_FULL;
+    *task = copy;
+#endif
     memcpy(log + 2 * state->logged, w.entries, w.fired * sizeof w.entries[0]);
     state->logged += w.fired;
     *channel = empty1;
