@@ -1,7 +1,7 @@
 #!/usr/bin/env python3
 """Writes crates/read_cases/stdin, the cases that program read_cases runs, and stdout, what it has to print.
 
-What is expected of a case with a name of its own is written here by hand, from the paper (01-scope). The two readers
+What is expected of a case with a name of its own is written here by hand, from the paper. The two readers
 below are written from the paper too, and from no Rattle code. They have to agree with every line that is written
 by hand, and they alone say what is expected of the families (every prefix, every kind at every record, and so on).
 

@@ -10,7 +10,7 @@ use Rattle.schedule.specs.declared.Schedule.{Schedule}
 use Rattle.state.specs.declared.State.{State}
 use Rattle.fresh.specs.declared.Started.{Started}
 use Rattle.delivery.specs.declared.Delivered.{Delivered}
-use Rattle.promises.specs.Interface.{TableRead, ScheduleRead, StartedFresh, FoundSound, Delivers, FoundQuiet, Prints}
+use Rattle.promises.specs.Interface.{TableRead, ScheduleRead, StartedFresh, FoundSound, Delivers, FoundQuiet, Prints, Answers}
 
 pub no-other : {A : Type 0} {meaning one other : A} → one ≡ meaning → other ≡ meaning → one ≡ other
 no-other p q = p ∙ sym q
@@ -40,4 +40,10 @@ no-other-quiet s a b p q = no-other p q
 pub no-other-print : (table schedule log text : List ℕ) (m n : ℕ) (x y u v : List ℕ)
     → Prints table schedule log text m x u → Prints table schedule log text n y v → (m ≡ n) × (x ≡ y) × (u ≡ v)
 no-other-print table schedule log text m n x y u v p q =
+    (no-other (p .count) (q .count), no-other (p .entries) (q .entries), no-other (p .bytes) (q .bytes))
+
+-- the same of the library's call
+pub no-other-call : (table schedule log text : List ℕ) (m n : ℕ) (x y u v : List ℕ)
+    → Answers table schedule log text m x u → Answers table schedule log text n y v → (m ≡ n) × (x ≡ y) × (u ≡ v)
+no-other-call table schedule log text m n x y u v p q =
     (no-other (p .count) (q .count), no-other (p .entries) (q .entries), no-other (p .bytes) (q .bytes))

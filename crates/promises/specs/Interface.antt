@@ -17,6 +17,7 @@ use Rattle.delivery.specs.declared.Delivered.{Delivered}
 use Rattle.quiet.specs.Quiet.{quiet}
 use Rattle.text.specs.Text.{typed}
 use Rattle.printed.specs.Printed.{printed}
+use Rattle.hunavosk.specs.Calls.{called}
 
 -- reader::read
 abbrev pub TableRead : List ℕ → Loaded → Type 0
@@ -48,3 +49,9 @@ pub record Prints (table schedule log text : List ℕ) (r : ℕ) (logAfter textA
   pub bytes : textAfter ≡ typed (printed table schedule log .text) (record { bytes = text; at = 0 }) .bytes
   pub count : r ≡ typed (printed table schedule log .text) (record { bytes = text; at = 0 }) .at
   pub entries : logAfter ≡ printed table schedule log .log
+
+-- hunavosk::hunavosk_desk
+pub record Answers (table schedule log text : List ℕ) (r : ℕ) (logAfter textAfter : List ℕ) : Type 0 where
+  pub count : r ≡ called table schedule log text .count
+  pub entries : logAfter ≡ called table schedule log text .log
+  pub bytes : textAfter ≡ called table schedule log text .text

@@ -33,7 +33,7 @@ cellOf t x g = (t * 16 + x) * 16 + g
 abbrev pub coded : ℕ → Move
 coded n = cond (ltb 0 n) (To (n - 1)) Nowhere
 
--- where task t in state x goes at gate g: "ready exactly when a transition (t, x, g) exists"
+-- where task t in state x goes at gate g: "ready at gate g exactly when a transition (t, s, g) exists"
 abbrev pub moveOf : List ℕ → ℕ → ℕ → ℕ → Move
 moveOf moves t x g = cond (isCell t x g) (coded (getD moves (cellOf t x g) 0)) Nowhere
 
