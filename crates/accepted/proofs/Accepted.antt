@@ -14,7 +14,7 @@ use Rattle.laws.proofs.Numbers.{below-of, each-of}
 use Rattle.laws.proofs.Tests.{and-true, or-left, or-right}
 use Rattle.table.specs.Tables.{cellOf}
 use Rattle.table.specs.declared.Table.{Table}
-use Rattle.soundness.specs.Sound.{taskSound, mostAt, movesSound, vectorFits, gateSound, soundTable}
+use Rattle.soundness.specs.Sound.{taskEntrySound, mostAt, movesSound, vectorFits, gateEntrySound, soundTable}
 use Rattle.soundness.proofs.Rows.{moveSound}
 use Rattle.reader.specs.Rules.{Loading}
 use Rattle.reader.specs.Reader.{refusedOf, endedOf, readOf}
@@ -40,9 +40,9 @@ sound-at-end at T p r h =
     let c : T .tasks ≤ p .came = ltb-false (p .came) (T .tasks) (or-right (eqb (p .kind) 0) (ltb (p .came) (T .tasks)) h) in
     let e : p .came ≡ T .tasks = omega (arith, r .came) in
     and-true _ _ (r .counted k)
-    (and-true _ _ (below-of 16 (taskSound T) (λ (t : ℕ) (_ : t < 16). rw e at (r .tasksFit t)))
+    (and-true _ _ (below-of 16 (taskEntrySound T) (λ (t : ℕ) (_ : t < 16). rw e at (r .tasksFit t)))
     (and-true _ _ (moves-sound T (r .sized .moves) (r .movesFit))
-    (below-of 16 (gateSound T) (λ (g : ℕ) (_ : g < 16). and-true _ _ (le-leb _ _ (r .countsFit g)) (below-of 8 (vectorFits (T .masks) g (getD (T .vectors) g 0) (T .tasks)) (r .masksFit g))))))
+    (below-of 16 (gateEntrySound T) (λ (g : ℕ) (_ : g < 16). and-true _ _ (le-leb _ _ (r .countsFit g)) (below-of 8 (vectorFits (T .masks) g (getD (T .vectors) g 0) (T .tasks)) (r .masksFit g))))))
 
 ended-done : (n : ℕ) (l : Loading) → isDone (endedOf n l .answer) ≡ true
     → ((eqb (l .progress .kind) 0 || ltb (l .progress .came) (l .table .tasks)) ≡ false) × (endedOf n l .table ≡ l .table)

@@ -12,7 +12,7 @@ use Rattle.laws.proofs.Stores.{set-at, set-other, zero-at}
 use Rattle.laws.proofs.Tests.{and-left, and-right, eq-or-ne, ltb-other}
 use Rattle.numbers.specs.declared.TaskNo.{TaskNo}
 use Rattle.records.specs.declared.Record.the-variants.{System, Task}
-use Rattle.table.specs.Tables.{countIn, cellOf, maskOf, emptyTable, withCounts, withTask}
+use Rattle.table.specs.Tables.{countIn, cellOf, maskOf, emptyTable, withCounts, withStates}
 use Rattle.table.specs.declared.Table.{Table}
 use Rattle.soundness.proofs.Rules.{count-most}
 use Rattle.reader.specs.Rules.{loading, allowedKind, noneCame, inRange, inOrder, withRecord, afterRecord}
@@ -66,14 +66,14 @@ system-reached at T p a b r k f =
     rw (z .0, z .1) (counted-reached (at + 6) a b 1 x y (omega arith) (λ (e : _≡_ {A = ℕ} 1 0). absurd (omega arith)) (λ n. c))
 
 module _ (T : Table) (n states start : ℕ) (s : Sized T) (room : n < 16) where
-  one-more-task : TasksFit T n → (countIn states && ltb start states) ≡ true → TasksFit (withTask T n states start) (n + 1)
+  one-more-task : TasksFit T n → (countIn states && ltb start states) ≡ true → TasksFit (withStates T n states start) (n + 1)
   one-more-task f h t = ⊎-elim
       (λ (e : t ≡ n). rw (e, lt-ltb n (n + 1) (omega arith), getD-set-same (T .states) n states 0 (omega (arith, s .states)), getD-set-same (T .starts) n start 0 (omega (arith, s .starts))) h)
       (λ (e : t ≡ n → ⊥). rw (ltb-other t n e, set-other (T .states) n t states e, set-other (T .starts) n t start e) (f t))
       (eq-or-ne t n)
 
   -- an absent task has no moves, so that its new states allow them
-  moves-of-others : MovesFit T → getD (T .states) n 0 ≡ 0 → MovesFit (withTask T n states start)
+  moves-of-others : MovesFit T → getD (T .states) n 0 ≡ 0 → MovesFit (withStates T n states start)
   moves-of-others f z t x g h k =
       set-at (T .states) n t states (λ (m : ℕ). getD (T .moves) (cellOf t x g) 0 ≤ cond (ltb x m && ltb g (T .gates)) m 0)
       (λ (e : t ≡ n).

@@ -5,7 +5,7 @@ use mathlib.Core.List.{List, []}
 use lib.Dec.{eqb}
 use Rattle.laws.specs.Turns.{upTo}
 use Rattle.fresh.specs.Fresh.{fresh}
-use Rattle.run.specs.Run.{Course, begun, course, deliveredBy, ranOf, steppedBy}
+use Rattle.run.specs.Run.{Course, courseBegun, course, deliveredBy, ranOf, steppedBy}
 use Rattle.run.specs.declared.Ran.{Ran}
 use Rattle.state.specs.States.{emptyState}
 use Rattle.state.specs.declared.State.{State}
@@ -13,7 +13,7 @@ use Rattle.table.specs.declared.Table.{Table}
 
 -- a line to which nothing was delivered
 abbrev pub rested : State → Ran
-rested s = ranOf (begun s [])
+rested s = ranOf (courseBegun s [])
 
 module _ (mode : ℕ) (T : Table) (file : List ℕ) (count : ℕ) where
   -- mode 2 asks number 11 in each delivery, mode 1 does not ask it again, and any other makes no delivery
@@ -23,10 +23,10 @@ module _ (mode : ℕ) (T : Table) (file : List ℕ) (count : ℕ) where
       (course (steppedBy (T .moves) (T .vectors) (T .masks) (T .tasks) (T .gates)) file (cond (eqb mode 1) count 0) c)
 
   unfoldable pub roundOf : List ℕ → Course
-  roundOf log = courseOf (begun (fresh T .state) log)
+  roundOf log = courseOf (courseBegun (fresh T .state) log)
 
   abbrev pub turnOf : ℕ → Course → Course
   turnOf i c = roundOf (c .log)
 
   unfoldable pub roundsOf : ℕ → List ℕ → Course
-  roundsOf rounds log = upTo turnOf rounds (begun emptyState log)
+  roundsOf rounds log = upTo turnOf rounds (courseBegun emptyState log)

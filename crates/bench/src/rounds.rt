@@ -5,7 +5,7 @@ use state::State;
 use table::Table;
 ghost use mathlib.Core.Bool.{cond};
 ghost use mathlib.Core.Path.{_≡_};
-ghost use Rattle.run.specs.Run.{begun, course, deliveredBy, ranOf};
+ghost use Rattle.run.specs.Run.{courseBegun, course, deliveredBy, ranOf};
 ghost use Rattle.bench.specs.Rounds.{rested, roundOf, roundsOf};
 
 // So many rounds, and what the last of them left.
@@ -72,8 +72,8 @@ fn rested(state: State) -> Ran
 
 // Makes the deliveries of a schedule in turn until one is refused, and asks number 11 in each.
 fn delivered<'a>(table: Table, s: State, log: &'a mut [u8], schedule: &'a [u8], count: usize) -> Ran
-    ensures state { λ r. ⌜ r ≡ ranOf (course (deliveredBy table) (now (schedule .entry)) count (begun s (now (log .entry)))) ⌝ }
-    ensures bytes { λ _. ⌜ now (log .exit) ≡ course (deliveredBy table) (now (schedule .entry)) count (begun s (now (log .entry))) .log ⌝ }
+    ensures state { λ r. ⌜ r ≡ ranOf (course (deliveredBy table) (now (schedule .entry)) count (courseBegun s (now (log .entry)))) ⌝ }
+    ensures bytes { λ _. ⌜ now (log .exit) ≡ course (deliveredBy table) (now (schedule .entry)) count (courseBegun s (now (log .entry))) .log ⌝ }
 {
     let mut s = s;
     let mut answer = Answer::Done;

@@ -6,7 +6,7 @@ use mathlib.Core.Path.{_≡_}
 use lib.ListN.{take}
 use Rattle.answers.specs.Answers.{numberOf}
 use Rattle.delivery.specs.Delivery.{Outcome}
-use Rattle.line.specs.Runs.{begun, runFrom}
+use Rattle.line.specs.Runs.{lineBegun, runFrom}
 use Rattle.line.specs.Answered.{answers}
 use Rattle.quiet.specs.Quiet.{quiet}
 use Rattle.reader.specs.Reader.{readOf}
@@ -38,7 +38,7 @@ seen T numbers o = ran numbers (o .log) (taskStates (T .tasks) (o .state)) (quie
 abbrev pub answered : Given → Back
 answered (file s) = read (numberOf (readOf s .answer)) (readOf s .place) (readOf s .table)
 answered (line s log ds) =
-    seen (readOf s .table) (map numberOf (answers (readOf s .table) (begun (readOf s .table) log) ds))
+    seen (readOf s .table) (map numberOf (answers (readOf s .table) (lineBegun (readOf s .table) log) ds))
     (runFrom (readOf s .table) log ds)
 
 -- what is handed in, and what must come back

@@ -4,8 +4,8 @@ use mathlib.Core.List.{List}
 use lib.ListN.{getD}
 use Rattle.channels.specs.Channels.{noRequest}
 use Rattle.channels.specs.declared.Request.{Request}
-use Rattle.delivery.specs.Delivery.{entered}
+use Rattle.delivery.specs.Delivery.{enteredInLog}
 
 -- entry k of those written behind the first `at`
 abbrev pub writtenAt : ℕ → List Request → ℕ → List ℕ → List ℕ
-writtenAt at entries k log = entered (at + k) (getD entries k noRequest) log
+writtenAt at entries k log = enteredInLog (at + k) (getD entries k noRequest) log

@@ -47,12 +47,12 @@ abbrev pub refused : State → List ℕ → Answer → Outcome
 refused s log answer = record { state = s; answer = answer; log = log }
 
 -- "two bytes an entry (gate, vector)"
-abbrev pub entered : ℕ → Request → List ℕ → List ℕ
-entered at r log = set (set log (at * 2) (r .gate .0)) (at * 2 + 1) (r .vector)
+abbrev pub enteredInLog : ℕ → Request → List ℕ → List ℕ
+enteredInLog at r log = set (set log (at * 2) (r .gate .0)) (at * 2 + 1) (r .vector)
 
 -- these many entries, written behind the first `at`
 unfoldable pub written : ℕ → List Request → ℕ → List ℕ → List ℕ
-written at entries count log = upTo (λ (k : ℕ) (l : List ℕ). entered (at + k) (getD entries k noRequest) l) count log
+written at entries count log = upTo (λ (k : ℕ) (l : List ℕ). enteredInLog (at + k) (getD entries k noRequest) l) count log
 
 -- A task's work on a delivery settled, where s is the state before and popped the state without the message.
 -- "12 .. is judged over the delivery's whole work as though the log had room; 10 is looked at only after that." The log's
@@ -88,8 +88,8 @@ module _ (vectors masks : List ℕ) (s : State) (t g : ℕ) where
   frontAtGate popped Nothing = record { state = s; answer = ChannelEmpty }
   frontAtGate popped (Oldest m) = settledAtGate s popped g (atGate masks (getD vectors g 0) g t (gateOf s g) m)
 
-  unfoldable pub toGate : Popped → Delivered
-  toGate taken = frontAtGate (taken .state) (taken .front)
+  unfoldable pub deliveredAtGate : Popped → Delivered
+  deliveredAtGate taken = frontAtGate (taken .state) (taken .front)
 
 module _ (moves masks : List ℕ) (gates : ℕ) (s : State) (log : List ℕ) where
   -- To task b.
@@ -97,14 +97,14 @@ module _ (moves masks : List ℕ) (gates : ℕ) (s : State) (log : List ℕ) whe
   frontAtTask b popped Nothing = refused s log ChannelEmpty
   frontAtTask b popped (Oldest m) = settledAtTask s popped log b (atTask moves gates b masks (taskOf s b) m)
 
-  unfoldable pub toTask : ℕ → Popped → Outcome
-  toTask b taken = frontAtTask b (taken .state) (taken .front)
+  unfoldable pub deliveredAtTask : ℕ → Popped → Outcome
+  deliveredAtTask b taken = frontAtTask b (taken .state) (taken .front)
 
   -- The oldest message of a channel, at its receiver.
   abbrev pub along : List ℕ → Link → Outcome
-  along vectors (ToGate t g) = withLog log (toGate vectors masks s (t .0) (g .0) (popOf s (ToGate t g)))
-  along vectors (FromGate g b) = toTask (b .0) (popOf s (FromGate g b))
-  along vectors (ToTask a b) = toTask (b .0) (popOf s (ToTask a b))
+  along vectors (ToGate t g) = withLog log (deliveredAtGate vectors masks s (t .0) (g .0) (popOf s (ToGate t g)))
+  along vectors (FromGate g b) = deliveredAtTask (b .0) (popOf s (FromGate g b))
+  along vectors (ToTask a b) = deliveredAtTask (b .0) (popOf s (ToTask a b))
 
   abbrev pub wayTaken : List ℕ → Way → Outcome
   wayTaken vectors Nowhere = refused s log NoChannel

@@ -13,7 +13,7 @@ ghost use mathlib.Core.Path.{_≡_};
 ghost use Prim.Native.Nat.{_+_, _/_, _≤_, _<_};
 ghost use lib.ListN.{getD, set, length};
 ghost use Rattle.channels.specs.Channels.{noRequest};
-ghost use Rattle.delivery.specs.Delivery.{entered, written, settledAtTask, wayOf, toGate, toTask, along, result, soundFor, delivered};
+ghost use Rattle.delivery.specs.Delivery.{enteredInLog, written, settledAtTask, wayOf, deliveredAtGate, deliveredAtTask, along, result, soundFor, delivered};
 ghost use Rattle.state.specs.States.{popOf};
 ghost use Rattle.delivery.specs.Within.{LinkWithin};
 
@@ -62,7 +62,7 @@ fn store(log: &mut [u8], i: usize, byte: u8)
 
 // Entry k of those behind the first `at`, two bytes.
 fn enter(log: &mut [u8], at: usize, k: u8, request: Request)
-    ensures { λ _. ⌜ now (log .exit) ≡ entered (at + k) request (now (log .entry)) ⌝ }
+    ensures { λ _. ⌜ now (log .exit) ≡ enteredInLog (at + k) request (now (log .entry)) ⌝ }
 {
     let capacity = log.len() / 2;
     if at <= capacity {
@@ -106,7 +106,7 @@ fn to_gate<'a>(
     g: GateNo,
 ) -> Delivered
     requires { ⌜ g .0 < 16 ⌝ }
-    ensures { λ r. ⌜ r ≡ toGate (now (vectors .entry)) (now (masks .entry)) s (t .0) (g .0) (popOf s link) ⌝ }
+    ensures { λ r. ⌜ r ≡ deliveredAtGate (now (vectors .entry)) (now (masks .entry)) s (t .0) (g .0) (popOf s link) ⌝ }
 {
     let i = g.0 as usize;
     let taken = s.pop(link);
@@ -147,8 +147,8 @@ fn to_task<'a>(
     b: TaskNo,
 ) -> Delivered
     requires { ⌜ (b .0 < 16) × (s .logged ≤ length (now log) / 2) ⌝ }
-    ensures state { λ r. ⌜ r ≡ result (toTask (now (moves .entry)) (now (masks .entry)) gates s (now (log .entry)) (b .0) (popOf s link)) ⌝ }
-    ensures bytes { λ _. ⌜ now (log .exit) ≡ toTask (now (moves .entry)) (now (masks .entry)) gates s (now (log .entry)) (b .0) (popOf s link) .log ⌝ }
+    ensures state { λ r. ⌜ r ≡ result (deliveredAtTask (now (moves .entry)) (now (masks .entry)) gates s (now (log .entry)) (b .0) (popOf s link)) ⌝ }
+    ensures bytes { λ _. ⌜ now (log .exit) ≡ deliveredAtTask (now (moves .entry)) (now (masks .entry)) gates s (now (log .entry)) (b .0) (popOf s link) .log ⌝ }
 {
     let taken = s.pop(link);
     let front = taken.front;

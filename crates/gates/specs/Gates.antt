@@ -27,9 +27,9 @@ abbrev pub offering : Gate → ℕ → Deal → Gate
 offering k offers deal = record { offers = offers; deal = deal; down = k .down }
 
 -- a message to a task: a full channel stays as it is, and is not allowed
-abbrev pub toTask : Gate → Found → Message → Work
-toTask k Nobody m = allowed k
-toTask k (Task b) m = let put = putDown k (b .0) m in record { gate = put .gate; ok = put .room }
+abbrev pub sentDown : Gate → Found → Message → Work
+sentDown k Nobody m = allowed k
+sentDown k (Task b) m = let put = putDown k (b .0) m in record { gate = put .gate; ok = put .room }
 
 -- the offers after a result by task t where the dealt vector has the mask: COMMIT, "t leaves the offers, and the dealt
 -- vector's tasks aren't put back"; ABORT, "the dealt vector's tasks rejoin the offers, then t leaves them"
@@ -48,7 +48,7 @@ module _ (masks : List ℕ) (vectors g : ℕ) where
   -- it "is dealt, its tasks leave the offers, and LOCK (gate, vector) goes to its lowest task"
   abbrev pub dealt : Gate → ℕ → Work
   dealt k v =
-      toTask (offering k (minusOf (k .offers) (maskOf masks g v)) (Dealing v)) (lowestOf (maskOf masks g v))
+      sentDown (offering k (minusOf (k .offers) (maskOf masks g v)) (Dealing v)) (lowestOf (maskOf masks g v))
       (Lock (record { gate = record { 0 = g }; vector = v }))
 
   abbrev pub searchedBy : Gate → Deal → Work

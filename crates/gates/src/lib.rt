@@ -7,7 +7,7 @@ use sets::Found;
 use state::Deal;
 use state::Gate;
 ghost use mathlib.Core.Path.{_≡_};
-ghost use Rattle.gates.specs.Gates.{offering, toTask, fitting, searchedBy, atGate};
+ghost use Rattle.gates.specs.Gates.{offering, sentDown, fitting, searchedBy, atGate};
 ghost use Rattle.gates.specs.Parts.{dealtMask, endedWith};
 
 // The work of one delivery on its receiver: the gate so far, and whether all of it is allowed.
@@ -119,7 +119,7 @@ fn fitting(masks: &[u16], vectors: u8, gate: GateNo, offers: u16) -> u8
 
 // A message to a task. A full channel stays as it is, and is not allowed.
 fn to_task(k: Gate, to: Found, message: Message) -> Work
-    ensures { λ r. ⌜ r ≡ toTask k to message ⌝ }
+    ensures { λ r. ⌜ r ≡ sentDown k to message ⌝ }
 {
     match to {
         Found::Nobody => Work { gate: k, ok: true },

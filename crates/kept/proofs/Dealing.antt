@@ -29,7 +29,7 @@ use Rattle.state.specs.declared.Deal.the-variants.{Idle, Dealing}
 use Rattle.state.specs.declared.Gate.{Gate}
 use Rattle.sound_state.specs.SoundState.{dealSound}
 use Rattle.sound_state.specs.Parts.{room}
-use Rattle.gates.specs.Gates.{allowed, excluded, offering, toTask, afterCommit, afterAbort, fitting, dealt, searchedBy, searched, ended, atGate}
+use Rattle.gates.specs.Gates.{allowed, excluded, offering, sentDown, afterCommit, afterAbort, fitting, dealt, searchedBy, searched, ended, atGate}
 use Rattle.kept.proofs.Channels.{put-one}
 use Rattle.kept.proofs.Rules.{GateRules, downFit, downRule}
 
@@ -75,7 +75,7 @@ module _ (T : Table) (R : Rules T) (g : ℕ) (here : g < T .gates) where
       (eqb-true _ _ (R .members g v (omega (arith, R .gates)) l))
 
   lock-kept : (k : Gate) (v : ℕ) (lowest : Found) → v < count → lowestOf (maskOf (T .masks) g v) ≡ lowest
-      → GateRules T g k → GateRules T g (toTask k lowest (Lock (record { gate = record { 0 = g }; vector = v })) .gate)
+      → GateRules T g k → GateRules T g (sentDown k lowest (Lock (record { gate = record { 0 = g }; vector = v })) .gate)
   lock-kept k v Nobody l e r = r
   lock-kept k v (Task b) l e r =
       let f = lowest-says (maskOf (T .masks) g v) b e in

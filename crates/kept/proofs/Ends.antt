@@ -12,7 +12,7 @@ use Rattle.answers.specs.declared.Answer.the-variants.{Done, NoChannel, Channel
 use Rattle.channels.specs.Channels.{empty1, popped3}
 use Rattle.channels.specs.declared.Message.{Message}
 use Rattle.delivery.proofs.Ways.{way-within}
-use Rattle.delivery.specs.Delivery.{Outcome, withLog, refused, written, settledAtTask, settledAtGate, wayOf, frontAtGate, toGate, frontAtTask, toTask, along, wayTaken, between, sound, delivered}
+use Rattle.delivery.specs.Delivery.{Outcome, withLog, refused, written, settledAtTask, settledAtGate, wayOf, frontAtGate, deliveredAtGate, frontAtTask, deliveredAtTask, along, wayTaken, between, sound, delivered}
 use Rattle.delivery.specs.Within.{EndWithin, LinkWithin, WayWithin}
 use Rattle.delivery.specs.declared.Way.{Way}
 use Rattle.delivery.specs.declared.Way.the-variants.{Nowhere, Along}
@@ -132,7 +132,7 @@ module _ (T : Table) (s : State) (log : List ℕ) (h : sound T s log ≡ true) w
 
   along-ends : (link : Link) → LinkWithin (T .tasks) (T .gates) link
       → Ends T s log (along (T .moves) (T .masks) (T .gates) s log (T .vectors) link)
-  unfolding toGate toTask
+  unfolding deliveredAtGate deliveredAtTask
   along-ends (ToGate t g) w = found-at-gate (upOf (taskOf s (t .0)) (g .0) .count) _ (upPopped s (t .0) (g .0)) (t .0) (g .0)
       (at-gate-ends (upPopped s (t .0) (g .0)) (g .0) (upWork T s (t .0) (g .0)) (to-gate (t .0) (g .0) h (w .0) (w .1)))
   along-ends (FromGate g b) w = found (downOf (gateOf s (g .0)) (b .0) .count) _ (downPopped s (g .0) (b .0)) (b .0) (λ n.

@@ -27,7 +27,7 @@ use Rattle.state.specs.declared.Mode.{Mode}
 use Rattle.state.specs.declared.Mode.the-variants.{Free, Held}
 use Rattle.state.specs.declared.State.{State}
 use Rattle.state.specs.declared.Task.{Task}
-use Rattle.tasks.specs.Tasks.{with, begun, excluded, toGate, toTask, entered, isFree, heldBy, sentAt, sentBelow, sent, announcedAt, announced, movedTo, accepted, handled, listHandled, locked, atTask}
+use Rattle.tasks.specs.Tasks.{with, begun, excluded, sentUp, sentAcross, entered, isFree, heldBy, sentAt, sentBelow, sent, announcedAt, announced, movedTo, accepted, handled, listHandled, locked, atTask}
 use Rattle.tasks.specs.declared.Work.{Work}
 use Rattle.delivery.specs.Delivery.{Outcome, sound, written, delivered}
 use Rattle.delivery.specs.Delivery as delivery
@@ -64,14 +64,14 @@ either false v w x y = y
 sent-ranged : (b mask g : ℕ) (m : Message) (w : Work) → WorkInRange w → WorkInRange (sent b mask g m w)
 unfolding sentBelow
 sent-ranged b mask g m w h =
-    turns-keep WorkInRange (sentAt mask m) b w (λ y v below k. either (memberOf mask y) (toTask v y m) v k k) h
+    turns-keep WorkInRange (sentAt mask m) b w (λ y v below k. either (memberOf mask y) (sentAcross v y m) v k k) h
 
 moved-ranged : (moves : List ℕ) (gates b : ℕ) (to : Move) (w : Work) → WorkInRange w → WorkInRange (movedTo moves gates b to w)
 unfolding announced
 moved-ranged moves gates b Nowhere w h = h
 moved-ranged moves gates b (To y) w h =
     turns-keep WorkInRange (announcedAt moves gates b y) gates (with w (withMode (atState (w .task) y) Free) (w .ok))
-    (λ g v below k. either (readyOf moves b y g && not (endsReady (upOf (v .task) g))) (toGate v g Ready) v k k) h
+    (λ g v below k. either (readyOf moves b y g && not (endsReady (upOf (v .task) g))) (sentUp v g Ready) v k k) h
 
 module _ (T : Table) (R : Rules T) (room : length (T .vectors) ≡ 16) (t : ℕ) (here : t < T .tasks) where
   named-ranged : (r : Request) → namesOf T t r ≡ true → InRange r
@@ -139,7 +139,7 @@ module _ (at : ℕ) (w : Work) (log : List ℕ) (f : WorkInRange w) (h : LogInRa
       let r : Request = getD (w .entries) n noRequest in
       let z : length before ≡ length log = same-length at (w .entries) n log in
       ⊎-elim
-      (λ (e : k ≡ at + n). subst (λ (i : ℕ). InRange (entryAt (delivery.entered (at + n) r before) i)) (sym e)
+      (λ (e : k ≡ at + n). subst (λ (i : ℕ). InRange (entryAt (delivery.enteredInLog (at + n) r before) i)) (sym e)
       (subst InRange (sym (entry-new (at + n) r before (omega arith))) (f n)))
       (λ (e : k ≡ at + n → ⊥). subst InRange (sym (entry-old (at + n) r before k e))
       (written-ranged n (omega arith) k (omega arith)))

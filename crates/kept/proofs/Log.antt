@@ -15,7 +15,7 @@ use Rattle.channels.specs.declared.Request.{Request}
 use Rattle.table.specs.declared.Table.{Table}
 use Rattle.state.specs.declared.State.{State}
 use Rattle.tasks.specs.declared.Work.{Work}
-use Rattle.delivery.specs.Delivery.{Outcome, entered, written, delivered}
+use Rattle.delivery.specs.Delivery.{Outcome, enteredInLog, written, delivered}
 use Rattle.delivery.proofs.Written.{writtenAt}
 use Rattle.kept.proofs.Ends.{Ends, refuses, to-gate, to-task, from-gate, HasRoom, doneAtTask, acrossPopped, downPopped, acrossWork, downWork, ends}
 use Rattle.kept.proofs.States.{sound-says}
@@ -32,14 +32,14 @@ abbrev pub entryAt : List ℕ → ℕ → Request
 entryAt log k = record { gate = record { 0 = getD log (k * 2) 0 }; vector = getD log (k * 2 + 1) 0 }
 
 module _ (n : ℕ) (r : Request) (log : List ℕ) where
-  pub entry-new : n * 2 + 1 < length log → entryAt (entered n r log) n ≡ r
+  pub entry-new : n * 2 + 1 < length log → entryAt (enteredInLog n r log) n ≡ r
   entry-new h = rw (
     set-other (set log (n * 2) (r .gate .0)) (n * 2 + 1) (n * 2) (r .vector) (λ e. omega arith),
     getD-set-same log (n * 2) (r .gate .0) 0 (omega arith),
     getD-set-same (set log (n * 2) (r .gate .0)) (n * 2 + 1) (r .vector) 0 (simp length-set h),
   )
 
-  pub entry-old : (k : ℕ) → (k ≡ n → ⊥) → entryAt (entered n r log) k ≡ entryAt log k
+  pub entry-old : (k : ℕ) → (k ≡ n → ⊥) → entryAt (enteredInLog n r log) k ≡ entryAt log k
   entry-old k h = rw (
     set-other (set log (n * 2) (r .gate .0)) (n * 2 + 1) (k * 2) (r .vector) (λ e. omega arith),
     set-other log (n * 2) (k * 2) (r .gate .0) (λ e. h (omega arith)),

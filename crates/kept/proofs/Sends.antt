@@ -26,7 +26,7 @@ use Rattle.state.specs.declared.Mode.the-variants.{Free}
 use Rattle.state.specs.declared.Task.{Task}
 use Rattle.sound_state.specs.SoundState.{upFits}
 use Rattle.sound_state.specs.Parts.{stateSound}
-use Rattle.tasks.specs.Tasks.{with, toGate, toTask, sentAt, sentBelow, sent, announcedAt, announced, movedTo}
+use Rattle.tasks.specs.Tasks.{with, sentUp, sentAcross, sentAt, sentBelow, sent, announcedAt, announced, movedTo}
 use Rattle.tasks.specs.declared.Work.{Work}
 use Rattle.kept.proofs.Channels.{put-up, put-one}
 use Rattle.kept.proofs.Rules.{Kept, heldSound, upRule, acrossFit, acrossRule}
@@ -88,14 +88,14 @@ module _ (T : Table) (R : Rules T) (t : ℕ) (here : t < T .tasks) (n : ℕ) whe
   with-task b l = and-true _ _ (lt-ltb t (T .tasks) here) (lt-ltb b (T .tasks) l)
 
   pub to-gate-kept : (w : Work) (g : ℕ) (m : Message) → g < T .gates → upFits g m ≡ true
-      → Kept T t n (w .task) → Kept T t n (toGate w g m .task)
+      → Kept T t n (w .task) → Kept T t n (sentUp w g m .task)
   to-gate-kept w g m l f k =
       let c : Channel3 = upOf (w .task) g in
       let both = with-gate g l in
       up-kept T t n (w .task) k g (put3 c m) (put-up _ both g c (k .up g (omega (arith, R .gates))) m f)
 
   pub to-task-kept : (w : Work) (b : ℕ) (m : Message) → b < T .tasks → acrossFit T t b m ≡ true
-      → Kept T t n (w .task) → Kept T t n (toTask w b m .task)
+      → Kept T t n (w .task) → Kept T t n (sentAcross w b m .task)
   to-task-kept w b m l f k =
       let c : Channel1 = acrossOf (w .task) b in
       let both = with-task b l in
@@ -112,14 +112,14 @@ module _ (T : Table) (R : Rules T) (t : ℕ) (here : t < T .tasks) (n : ℕ) whe
   unfolding sentBelow
   sent-kept mask g m w l a f k = to-gate-kept (sentBelow t mask m w) g m l f
       (turns-keep (λ (v : Work). Kept T t n (v .task)) (sentAt mask m) t w
-      (λ y v below k. either (memberOf mask y) (toTask v y m) v (to-task-kept v y m (omega arith) (a y below) k) k) k)
+      (λ y v below k. either (memberOf mask y) (sentAcross v y m) v (to-task-kept v y m (omega arith) (a y below) k) k) k)
 
   pub announced-kept : (w : Work) → Kept T t n (w .task) → Kept T t n (announced (T .moves) (T .gates) t w .task)
   unfolding announced
   announced-kept w = turns-keep (λ (v : Work). Kept T t n (v .task))
       (announcedAt (T .moves) (T .gates) t (w .task .state)) (T .gates) w
       (λ g v below k. either (readyOf (T .moves) t (w .task .state) g && not (endsReady (upOf (v .task) g)))
-      (toGate v g Ready) v (to-gate-kept v g Ready below refl k) k)
+      (sentUp v g Ready) v (to-gate-kept v g Ready below refl k) k)
 
   -- at another of its states
   pub at-state-kept : (p : Task) (y : ℕ) → y < getD (T .states) t 0 → Kept T t n p → Kept T t n (atState p y)

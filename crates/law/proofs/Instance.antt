@@ -19,7 +19,7 @@ use Rattle.sound_state.specs.SoundState.{taskSound, gateSound, soundState}
 use Rattle.state.specs.States.{taskOf}
 use Rattle.tasks.specs.Tasks.{announced, sentBelow, handled, listHandled, atTask}
 use Rattle.gates.specs.Gates.{searched, atGate}
-use Rattle.delivery.specs.Delivery.{Outcome, written, toGate, toTask, between, soundFor, delivered}
+use Rattle.delivery.specs.Delivery.{Outcome, written, deliveredAtGate, deliveredAtTask, between, soundFor, delivered}
 use Rattle.fresh.specs.Fresh.{freshState, fresh}
 use Rattle.quiet.specs.Quiet.{quiet}
 use Rattle.machine.specs.Machine.{enabled}
@@ -49,7 +49,7 @@ pub record Rests (o : Outcome) : Type 0 where
   pub quiet-is : quiet (o .state) ≡ true
 
 pub rests-E : Rests after
-unfolding allBelow firstFrom allFrom headFault walk recordAt newBelow kindFault inRange isNinth inOrder fieldFault withRecord afterRecord faultAt withRecordAt endedOf movesSound soundTable taskSound gateSound soundState announced sentBelow handled listHandled atTask searched atGate written toGate toTask between soundFor delivered freshState fresh quiet run
+unfolding allBelow firstFrom allFrom headFault walk recordAt newBelow kindFault inRange isNinth inOrder fieldFault withRecord afterRecord faultAt withRecordAt endedOf movesSound soundTable taskSound gateSound soundState announced sentBelow handled listHandled atTask searched atGate written deliveredAtGate deliveredAtTask between soundFor delivered freshState fresh quiet run
 rests-E = record { entries = refl; log-is = refl; quiet-is = refl }
 
 pub law-E : Law tableOfE before (after .state) (after .log)

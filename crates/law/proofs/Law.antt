@@ -13,7 +13,7 @@ use Rattle.delivery.specs.Delivery.{Outcome}
 use Rattle.protocol.proofs.Counted.{one-under-way}
 use Rattle.line.specs.Law.{Allowed, Law}
 use Rattle.line.specs.Answered.{Each, answers}
-use Rattle.line.specs.Runs.{begun, runFrom}
+use Rattle.line.specs.Runs.{lineBegun, runFrom}
 use Rattle.link.proofs.View.{lineOf}
 use Rattle.link.proofs.Tables.{planOf, Lawful, lawful}
 use Rattle.link.proofs.Deliveries.{safe-rules, safe-fits}
@@ -57,8 +57,8 @@ module _ (file log : List ℕ) (accepted : readOf file .answer ≡ Done) (delive
   -- every state that a line reaches keeps the law
   pub law : Law table log (runFrom table log deliveries .state) (runFrom table log deliveries .log)
   law = law-of table table-lawful log (runFrom table log deliveries)
-      (run-reached table table-lawful log (begun table log) (fresh-reached table table-lawful log) deliveries)
+      (run-reached table table-lawful log (lineBegun table log) (fresh-reached table table-lawful log) deliveries)
 
   -- and no delivery on the way answers 11 or 12
-  pub all-allowed : Each Allowed (answers table (begun table log) deliveries)
-  all-allowed = run-allowed table table-lawful log (begun table log) (fresh-reached table table-lawful log) deliveries
+  pub all-allowed : Each Allowed (answers table (lineBegun table log) deliveries)
+  all-allowed = run-allowed table table-lawful log (lineBegun table log) (fresh-reached table table-lawful log) deliveries

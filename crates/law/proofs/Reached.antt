@@ -19,7 +19,7 @@ use Rattle.kept.proofs.Ends.{refused-changes-nothing}
 use Rattle.kept.proofs.Log.{log-behind}
 use Rattle.line.specs.Law.{Allowed}
 use Rattle.line.specs.Answered.{Each, answers}
-use Rattle.line.specs.Runs.{begun, run}
+use Rattle.line.specs.Runs.{lineBegun, run}
 use Rattle.link.proofs.Made.{done, full}
 use Rattle.link.proofs.Deliveries.{Safe, Answered, no-channel, empty, made, answered, safe-after, safe-fresh}
 use Rattle.link.proofs.Tables.{Lawful}
@@ -51,7 +51,7 @@ pub record Reached (T : Table) (before : List ℕ) (o : Outcome) : Type 0 where
   pub behind : (i : ℕ) → o .state .logged * 2 ≤ i → getD (o .log) i 0 ≡ getD before i 0
 
 module _ (T : Table) (q : Lawful T) (before : List ℕ) where
-  pub fresh-reached : Reached T before (begun T before)
+  pub fresh-reached : Reached T before (lineBegun T before)
   unfolding fresh
   fresh-reached = rw (q .sound) (record { safe = safe-fresh T q before; long = refl; behind = λ i _. refl })
 

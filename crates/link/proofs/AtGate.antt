@@ -24,7 +24,7 @@ use Rattle.state.specs.declared.Deal.{Deal}
 use Rattle.state.specs.declared.Deal.the-variants.{Dealing, Idle}
 use Rattle.state.specs.declared.Gate.{Gate}
 use Rattle.state.specs.declared.Task.{Task}
-use Rattle.gates.specs.Gates.{afterAbort, afterCommit, allowed, dealt, fitting, offering, searched, searchedBy, toTask}
+use Rattle.gates.specs.Gates.{afterAbort, afterCommit, allowed, dealt, fitting, offering, searched, searchedBy, sentDown}
 use Rattle.gates.specs.declared.Work.{Work}
 use Rattle.kept.proofs.Rules.{SizedGate}
 use Rattle.protocol.specs.Lines.{Line}
@@ -133,7 +133,7 @@ module _ (T : Table) (q : Lawful T) (S : ℕ → Task) (G : ℕ → Gate) (log :
   stays = record { good = refl; is = ap (λ (f : ℕ → Gate). lineWith S f log) (changed-back G g) }
 
   dealt-line : (v b : ℕ) → b < 16 → G g .deal ≡ Idle
-      → Searched S G log g (toTask (dealtGate v) (found.Task (record { 0 = b })) (lockOf v)) (step.dealt (planOf T) X g v b)
+      → Searched S G log g (sentDown (dealtGate v) (found.Task (record { 0 = b })) (lockOf v)) (step.dealt (planOf T) X g v b)
   dealt-line v b hb e =
       let c : Channel1 = downOf (G g) b in
       let long : b < length (G g .down) = omega (arith, z .down) in
@@ -158,7 +158,7 @@ module _ (T : Table) (q : Lawful T) (S : ℕ → Task) (G : ℕ → Gate) (log :
   dealt-shows v e i = turn (lowestOf (maskOf (T .masks) g v)) refl
     where
       turn : (f : Found) → lowestOf (maskOf (T .masks) g v) ≡ f
-          → Searched S G log g (toTask (dealtGate v) f (lockOf v)) (step.dealt (planOf T) X g v (numberOf f))
+          → Searched S G log g (sentDown (dealtGate v) f (lockOf v)) (step.dealt (planOf T) X g v (numberOf f))
       turn found.Nobody h = clash (
           sym (subst (λ (f : Found). memberOf (maskOf (T .masks) g v) (numberOf f) ≡ true) h (q .right .lowest-in g v (memberOf offers) e))
           ∙ lowest-nobody (maskOf (T .masks) g v) h 0 (omega arith))

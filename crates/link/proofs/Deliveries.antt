@@ -18,7 +18,7 @@ use Rattle.table.specs.declared.Table.{Table}
 use Rattle.state.specs.States.{acrossOf, downOf, gateOf, taskOf, upOf}
 use Rattle.state.specs.declared.Link.the-variants.{FromGate, ToGate, ToTask}
 use Rattle.state.specs.declared.State.{State}
-use Rattle.delivery.specs.Delivery.{Outcome, along, between, delivered, refused, sound, toGate, toTask, wayOf, wayTaken}
+use Rattle.delivery.specs.Delivery.{Outcome, along, between, delivered, refused, sound, deliveredAtGate, deliveredAtTask, wayOf, wayTaken}
 use Rattle.delivery.specs.Within.{EndWithin}
 use Rattle.delivery.specs.declared.Way.the-variants.{Along, Nowhere}
 use Rattle.fresh.specs.Fresh.{freshState}
@@ -62,20 +62,20 @@ module _ (T : Table) (q : Lawful T) (s : State) (log : List ℕ) (f : Safe T s l
 
   at-gate : (t g : ℕ) → t < T .tasks → g < T .gates
       → Answered T s log (along (T .moves) (T .masks) (T .gates) s log (T .vectors) (ToGate (record { 0 = t }) (record { 0 = g })))
-  unfolding toGate
+  unfolding deliveredAtGate
   at-gate t g ht hg = by-count (upOf (taskOf s t) g .count) _ (made-to-gate T q s log R (f .inv) t g ht hg)
       (λ e. rw (eq-eqb (upOf (taskOf s t) g .count) 0 e))
 
   from-gate : (g b : ℕ) → g < T .gates → b < T .tasks
       → Answered T s log (along (T .moves) (T .masks) (T .gates) s log (T .vectors) (FromGate (record { 0 = g }) (record { 0 = b })))
-  unfolding toTask
+  unfolding deliveredAtTask
   from-gate g b hg hb = by-count (downOf (gateOf s g) b .count) _
       (made-from-gate T q s log R (safe-fits T s log f) (f .inv) g b hg hb)
       (λ e. rw (eq-eqb (downOf (gateOf s g) b .count) 0 e))
 
   to-task : (a b : ℕ) → a < T .tasks → b < T .tasks → a ≢ b
       → Answered T s log (along (T .moves) (T .masks) (T .gates) s log (T .vectors) (ToTask (record { 0 = a }) (record { 0 = b })))
-  unfolding toTask
+  unfolding deliveredAtTask
   to-task a b ha hb ne = by-count (acrossOf (taskOf s a) b .count) _
       (made-to-task T q s log R (safe-fits T s log f) (f .inv) a b ha hb ne)
       (λ e. rw (eq-eqb (acrossOf (taskOf s a) b .count) 0 e))

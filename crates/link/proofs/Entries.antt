@@ -9,7 +9,7 @@ use lib.ListN.{getD, length, set}
 use lib.Seq.{getD-set-other, getD-set-same}
 use Rattle.channels.specs.Channels.{noRequest}
 use Rattle.channels.specs.declared.Request.{Request}
-use Rattle.delivery.specs.Delivery.{entered, written}
+use Rattle.delivery.specs.Delivery.{enteredInLog, written}
 use Rattle.kept.proofs.Log.{entry-new, entry-old, same-length}
 use Rattle.link.proofs.View.{newestFirst}
 
@@ -32,13 +32,13 @@ entries-more n entries r log h =
     (ap (λ q. q ∷ entriesWith n entries log) (getD-set-same entries n r noRequest h)))
 
 -- an entry written as number k leaves those before it
-before : (m k : ℕ) (log : List ℕ) (r : Request) → m ≤ k → newestFirst m (entered k r log) ≡ newestFirst m log
+before : (m k : ℕ) (log : List ℕ) (r : Request) → m ≤ k → newestFirst m (enteredInLog k r log) ≡ newestFirst m log
 before zero k log r h = refl
 before (suc m) k log r h =
     rw (before m k log r (omega arith)) (ap (λ e. e ∷ newestFirst m log) (entry-old k r log m (λ p. omega arith)))
 
 one-more : (k : ℕ) (log : List ℕ) (r : Request) → k * 2 + 1 < length log
-    → newestFirst (suc k) (entered k r log) ≡ r ∷ newestFirst k log
+    → newestFirst (suc k) (enteredInLog k r log) ≡ r ∷ newestFirst k log
 one-more k log r h = rw (before k k log r (omega arith)) (ap (λ e. e ∷ newestFirst k log) (entry-new k r log h))
 
 -- n entries written behind the first `at`

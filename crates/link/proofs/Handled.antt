@@ -17,7 +17,7 @@ use Rattle.state.specs.States.{withMode}
 use Rattle.state.specs.declared.Gate.{Gate}
 use Rattle.state.specs.declared.Mode.the-variants.{Free, Held}
 use Rattle.state.specs.declared.Task.{Task}
-use Rattle.tasks.specs.Tasks.{accepted, entered, handled, movedTo, sent, toTask, with}
+use Rattle.tasks.specs.Tasks.{accepted, entered, handled, movedTo, sent, sentAcross, with}
 use Rattle.tasks.specs.declared.Work.{Work}
 use Rattle.machine.specs.Machine.{moved}
 use Rattle.protocol.specs.Lines.{Line}
@@ -71,7 +71,7 @@ module _ (T : Table) (q : Lawful T) (G : ℕ → Gate) (log : List Request) (b :
 
   -- ready, with a higher task: LOCK to it
   forwarded-shows : (c : ℕ) → planOf T .nextAbove g v b ≡ some c
-      → ShowsHere (toTask (with w (withMode (w .task) (Held r)) (w .ok)) c (Lock r)) (forwarded x g v b c)
+      → ShowsHere (sentAcross (with w (withMode (w .task) (Held r)) (w .ok)) c (Lock r)) (forwarded x g v b c)
   forwarded-shows c e =
       let o = q .right .next-some g v b c e in
       passed-shows G log b S r c (let t = q .present g v c (o .0) .task in omega (arith, q .rules .tasks)) w x s

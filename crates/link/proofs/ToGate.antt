@@ -25,7 +25,7 @@ use Rattle.sound_state.specs.SoundState.{upFits, upSound}
 use Rattle.sound_state.specs.Parts.{room}
 use Rattle.gates.specs.Gates.{atGate, ended, offering, searched}
 use Rattle.gates.specs.declared.Work.{Work}
-use Rattle.delivery.specs.Delivery.{settledAtGate, toGate, withLog}
+use Rattle.delivery.specs.Delivery.{settledAtGate, deliveredAtGate, withLog}
 use Rattle.kept.proofs.Ends.{upPopped}
 use Rattle.kept.proofs.States.{StateRules}
 use Rattle.protocol.specs.Lines.{Line, result}
@@ -125,8 +125,8 @@ module _ (T : Table) (q : Lawful T) (s : State) (log : List ℕ) (R : StateRules
   by-message (Commit h) f e = by-result true (e ∙ ap (λ (n : ℕ). result true n ∷ rest) (eqb-true (h .0) g f))
   by-message (Abort h) f e = by-result false (e ∙ ap (λ (n : ℕ). result false n ∷ rest) (eqb-true (h .0) g f))
 
-  pub made-to-gate : (c .count ≡ 0 → ⊥) → Made T s log (withLog log (toGate (T .vectors) (T .masks) s t g (popOf s (ToGate (record { 0 = t }) (record { 0 = g })))))
-  unfolding toGate
+  pub made-to-gate : (c .count ≡ 0 → ⊥) → Made T s log (withLog log (deliveredAtGate (T .vectors) (T .masks) s t g (popOf s (ToGate (record { 0 = t }) (record { 0 = g })))))
+  unfolding deliveredAtGate
   made-to-gate n =
       let u = up-says (ltb t (T .tasks) && ltb g (T .gates)) g c (R .task t t16 .kept .up g g16) n in
       rw (ne-eqb (c .count) 0 n) (by-message (c .first) (u .1) (pop-messages3 c (u .0) n))

@@ -26,7 +26,7 @@ use Rattle.state.specs.declared.State.{State}
 use Rattle.state.specs.declared.Task.{Task}
 use Rattle.tasks.specs.Tasks.{aborted, atTask, begun, committed, heldBy, listHandled, locked}
 use Rattle.tasks.specs.declared.Work.{Work}
-use Rattle.delivery.specs.Delivery.{settledAtTask, toTask}
+use Rattle.delivery.specs.Delivery.{settledAtTask, deliveredAtTask}
 use Rattle.kept.proofs.Channels.{one-fits}
 use Rattle.kept.proofs.Ends.{acrossPopped, downPopped}
 use Rattle.kept.proofs.Rules.{acrossFit, downFit, namesOf}
@@ -117,8 +117,8 @@ module _ (T : Table) (q : Lawful T) (s : State) (log : List ℕ) (R : StateRules
     down-message (Commit h) f e = clash (sym f)
     down-message (Abort h) f e = clash (sym f)
 
-    pub made-from-gate : (down .count ≡ 0 → ⊥) → Made T s log (toTask (T .moves) (T .masks) (T .gates) s log b (popOf s (FromGate (record { 0 = g }) (record { 0 = b }))))
-    unfolding toTask
+    pub made-from-gate : (down .count ≡ 0 → ⊥) → Made T s log (deliveredAtTask (T .moves) (T .masks) (T .gates) s log b (popOf s (FromGate (record { 0 = g }) (record { 0 = b }))))
+    unfolding deliveredAtTask
     made-from-gate n =
         let k = R .gate g g16 .down b b16 in
         rw (ne-eqb (down .count) 0 n) (down-message (down .first)
@@ -207,8 +207,8 @@ module _ (T : Table) (q : Lawful T) (s : State) (log : List ℕ) (R : StateRules
     across-message (Commit h) f e = across-result true (h .0) (ltb-true b a (and-left (ltb b a) (ltb (h .0) (T .gates)) f)) e
     across-message (Abort h) f e = across-result false (h .0) (ltb-true b a (and-left (ltb b a) (ltb (h .0) (T .gates)) f)) e
 
-    pub made-to-task : (across .count ≡ 0 → ⊥) → Made T s log (toTask (T .moves) (T .masks) (T .gates) s log b (popOf s (ToTask (record { 0 = a }) (record { 0 = b }))))
-    unfolding toTask
+    pub made-to-task : (across .count ≡ 0 → ⊥) → Made T s log (deliveredAtTask (T .moves) (T .masks) (T .gates) s log b (popOf s (ToTask (record { 0 = a }) (record { 0 = b }))))
+    unfolding deliveredAtTask
     made-to-task n =
         let k = R .task a a16 .kept .across b c16 in
         rw (ne-eqb (across .count) 0 n) (across-message (across .first)

@@ -23,7 +23,7 @@ use Rattle.state.specs.States.{acrossOf, atState, upOf, withAcross, withMode, w
 use Rattle.state.specs.declared.Gate.{Gate}
 use Rattle.state.specs.declared.Mode.the-variants.{Free, Held}
 use Rattle.state.specs.declared.Task.{Task}
-use Rattle.tasks.specs.Tasks.{announced, entered, movedTo, sent, sentBelow, toTask, with}
+use Rattle.tasks.specs.Tasks.{announced, entered, movedTo, sent, sentBelow, sentAcross, with}
 use Rattle.tasks.specs.declared.Work.{Work}
 use Rattle.protocol.specs.Lines.{Line, readyIf, result}
 use Rattle.protocol.specs.Plans.{changed}
@@ -99,10 +99,10 @@ module _ (G : ℕ → Gate) (log : List Request) (b : ℕ) (S : ℕ → Task) wh
 
   -- LOCK to a higher task, and Held
   pub passed-shows : (r : Request) (c : ℕ) → c < 16 → (w : Work) (x : Line) → ShowsHere w x → x .across b c ≡ []
-      → ShowsHere (toTask (with w (withMode (w .task) (Held r)) (w .ok)) c (Lock r)) (forwarded x (r .gate .0) (r .vector) b c)
+      → ShowsHere (sentAcross (with w (withMode (w .task) (Held r)) (w .ok)) c (Lock r)) (forwarded x (r .gate .0) (r .vector) b c)
   passed-shows r c hc = shows-all G log b S
       (λ w x. x .across b c ≡ []
-      → ShowsHere (toTask (with w (withMode (w .task) (Held r)) (w .ok)) c (Lock r)) (forwarded x (r .gate .0) (r .vector) b c))
+      → ShowsHere (sentAcross (with w (withMode (w .task) (Held r)) (w .ok)) c (Lock r)) (forwarded x (r .gate .0) (r .vector) b c))
       (λ p n E z l none.
       let d : Channel1 = acrossOf p c in
       let s = allowed-shows G log b S p n E z l in

@@ -8,7 +8,7 @@ use Rattle.quiet.specs.Quiet.{quiet}
 use Rattle.reader.specs.Reader.{readOf}
 use Rattle.reader.specs.declared.Loaded.{Loaded}
 use Rattle.report.specs.Report.{refusal, report}
-use Rattle.run.specs.Run.{Course, begun, course, deliveredBy}
+use Rattle.run.specs.Run.{Course, courseBegun, course, deliveredBy}
 use Rattle.schedule.specs.Schedules.{scheduleOf}
 use Rattle.schedule.specs.declared.Schedule.{Schedule}
 use Rattle.table.specs.declared.Table.{Table}
@@ -33,7 +33,7 @@ ofCourse T c = record {
 abbrev pub ofSchedule : Table → List ℕ → List ℕ → Schedule → Page
 ofSchedule T file log listed =
     cond (isDone (listed .answer))
-    (ofCourse T (course (deliveredBy T) file (listed .count) (begun (fresh T .state) log)))
+    (ofCourse T (course (deliveredBy T) file (listed .count) (courseBegun (fresh T .state) log)))
     (refused (numberOf (listed .answer)) (listed .place) log)
 
 -- "The table is read first, and where it is refused the schedule isn't looked at."

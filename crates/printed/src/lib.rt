@@ -5,7 +5,7 @@ ghost use mathlib.Core.Path.{_≡_};
 ghost use Rattle.schedule.specs.Schedules.{scheduleOf};
 ghost use Rattle.soundness.specs.Sound.{soundTable};
 ghost use Rattle.fresh.specs.Fresh.{fresh};
-ghost use Rattle.run.specs.Run.{begun, course, deliveredBy};
+ghost use Rattle.run.specs.Run.{courseBegun, course, deliveredBy};
 ghost use Rattle.text.specs.Text.{Text, typed};
 ghost use Rattle.printed.specs.Printed.{ofCourse, ofSchedule, printed};
 
@@ -59,9 +59,9 @@ fn with_deliveries<'a>(
     text: &'a mut [u8],
 ) -> usize
     requires { ⌜ soundTable table ≡ true ⌝ }
-    ensures bytes { λ _. ⌜ now (text .exit) ≡ typed (ofCourse table (course (deliveredBy table) (now (schedule .entry)) count (begun (fresh table .state) (now (log .entry)))) .text) (record { bytes = now (text .entry); at = 0 }) .bytes ⌝ }
-    ensures count { λ r. ⌜ r ≡ typed (ofCourse table (course (deliveredBy table) (now (schedule .entry)) count (begun (fresh table .state) (now (log .entry)))) .text) (record { bytes = now (text .entry); at = 0 }) .at ⌝ }
-    ensures entries { λ _. ⌜ now (log .exit) ≡ course (deliveredBy table) (now (schedule .entry)) count (begun (fresh table .state) (now (log .entry))) .log ⌝ }
+    ensures bytes { λ _. ⌜ now (text .exit) ≡ typed (ofCourse table (course (deliveredBy table) (now (schedule .entry)) count (courseBegun (fresh table .state) (now (log .entry)))) .text) (record { bytes = now (text .entry); at = 0 }) .bytes ⌝ }
+    ensures count { λ r. ⌜ r ≡ typed (ofCourse table (course (deliveredBy table) (now (schedule .entry)) count (courseBegun (fresh table .state) (now (log .entry)))) .text) (record { bytes = now (text .entry); at = 0 }) .at ⌝ }
+    ensures entries { λ _. ⌜ now (log .exit) ≡ course (deliveredBy table) (now (schedule .entry)) count (courseBegun (fresh table .state) (now (log .entry))) .log ⌝ }
 {
     let started = fresh::fresh(table);
     let s = started.state;

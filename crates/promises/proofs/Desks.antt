@@ -17,7 +17,7 @@ use Rattle.state.specs.declared.State.{State}
 use Rattle.delivery.specs.Delivery.{Outcome, result, withLog, delivered}
 use Rattle.delivery.specs.declared.Delivered.{Delivered}
 use Rattle.line.specs.Law.{Law}
-use Rattle.line.specs.Runs.{begun, run}
+use Rattle.line.specs.Runs.{lineBegun, run}
 use Rattle.cases.specs.TableE.{pair}
 use Rattle.law.proofs.Law.{law}
 use Rattle.promises.specs.Desks.{Desk, Keeps, goneOn, lineBy, RefusesAll, AnswersAlike, NeverMoves, PopsTheRest, WritesNothing}
@@ -92,5 +92,5 @@ module _ (desk : Desk) (keeps : Keeps desk) where
       (lineBy desk (readOf file .table) log deliveries .log)
   law-kept file log accepted deliveries =
       subst (λ (o : Outcome). Law (readOf file .table) log (o .state) (o .log))
-      (sym (same-line (readOf file .table) (begun (readOf file .table) log) deliveries))
+      (sym (same-line (readOf file .table) (lineBegun (readOf file .table) log) deliveries))
       (law file log accepted deliveries)

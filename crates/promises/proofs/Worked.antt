@@ -22,7 +22,7 @@ use Rattle.state.specs.declared.Link.{Link}
 use Rattle.state.specs.declared.Link.the-variants.{ToGate}
 use Rattle.tasks.specs.Tasks.{announced, sentBelow, handled, listHandled, atTask}
 use Rattle.gates.specs.Gates.{searched, atGate}
-use Rattle.delivery.specs.Delivery.{Outcome, written, wayOf, toGate, toTask, between, soundFor, delivered}
+use Rattle.delivery.specs.Delivery.{Outcome, written, wayOf, deliveredAtGate, deliveredAtTask, between, soundFor, delivered}
 use Rattle.delivery.specs.declared.Way.the-variants.{Along}
 use Rattle.fresh.specs.Fresh.{freshState, fresh}
 use Rattle.line.specs.Runs.{run, runFrom}
@@ -62,7 +62,7 @@ pub record Worked : Type 0 where
   pub ninth-moves : taskOf (next 8 2 1 .state) 1 .state ≡ 1
 
 pub worked : Worked
-unfolding allBelow firstFrom allFrom headFault walk recordAt newBelow kindFault inRange isNinth inOrder fieldFault withRecord afterRecord faultAt withRecordAt endedOf movesSound soundTable taskSound gateSound soundState announced sentBelow handled listHandled atTask searched atGate written toGate toTask between soundFor delivered freshState fresh run
+unfolding allBelow firstFrom allFrom headFault walk recordAt newBelow kindFault inRange isNinth inOrder fieldFault withRecord afterRecord faultAt withRecordAt endedOf movesSound soundTable taskSound gateSound soundState announced sentBelow handled listHandled atTask searched atGate written deliveredAtGate deliveredAtTask between soundFor delivered freshState fresh run
 worked = record {
   first-done = refl;
   other-refused = refl;

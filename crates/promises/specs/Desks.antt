@@ -13,7 +13,7 @@ use Rattle.state.specs.declared.Link.{Link}
 use Rattle.state.specs.declared.State.{State}
 use Rattle.delivery.specs.Delivery.{Outcome, result, wayOf}
 use Rattle.delivery.specs.declared.Way.the-variants.{Along}
-use Rattle.line.specs.Runs.{begun, runFrom}
+use Rattle.line.specs.Runs.{lineBegun, runFrom}
 use Rattle.promises.specs.Interface.{Delivers}
 
 -- what comes of a table, a state, a log and a delivery's two endpoints
@@ -32,7 +32,7 @@ module _ (desk : Desk) where
   goneOn T o (d ∷ deliveries) = goneOn T (desk T (o .state) (o .log) (d .from) (d .to)) deliveries
 
   abbrev pub lineBy : Table → List ℕ → List Delivery → Outcome
-  lineBy T log deliveries = goneOn T (begun T log) deliveries
+  lineBy T log deliveries = goneOn T (lineBegun T log) deliveries
 
   -- "a desk that refuses all deliveries"
   abbrev pub RefusesAll : Type 0

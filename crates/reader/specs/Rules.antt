@@ -9,7 +9,7 @@ use Rattle.records.specs.Records.{gateNo}
 use Rattle.records.specs.declared.Record.{Record}
 use Rattle.records.specs.declared.Record.the-variants.{System, Task, Transition, Vector}
 use Rattle.sets.specs.Sets.{allBelowOf}
-use Rattle.table.specs.Tables.{countIn, cellOf, newBelow, withCounts, withTask, withMove, withVector}
+use Rattle.table.specs.Tables.{countIn, cellOf, newBelow, withCounts, withStates, withMove, withVector}
 use Rattle.table.specs.declared.Table.{Table}
 use Rattle.reader.specs.declared.Progress.{Progress}
 
@@ -69,7 +69,7 @@ fieldFault l r =
 -- what an accepted record adds to the table
 unfoldable pub withRecord : Table → Record → Table
 withRecord T (System tasks gates) = withCounts T tasks gates
-withRecord T (Task t states start) = withTask T (t .0) states start
+withRecord T (Task t states start) = withStates T (t .0) states start
 withRecord T (Transition t from g to) = withMove T (t .0) from (g .0) to
 withRecord T (Vector g mask) = withVector T (g .0) mask
 

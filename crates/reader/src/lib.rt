@@ -161,7 +161,7 @@ fn with_record(table: Table, next: Record) -> Table
 {
     match next {
         Record::System(tasks, gates) => table.with_counts(tasks, gates),
-        Record::Task(task, states, start) => table.with_task(task, states, start),
+        Record::Task(task, states, start) => table.with_states(task, states, start),
         Record::Transition(task, from, gate, to) => table.with_move(task, from, gate, to),
         Record::Vector(gate, mask) => table.with_vector(gate, mask),
     }

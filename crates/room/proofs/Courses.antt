@@ -18,7 +18,7 @@ use Rattle.kept.proofs.Fresh.{fresh-logged, fresh-sized, fresh-all-sound}
 use Rattle.kept.proofs.Kept.{outcome-sound, outcome-sized}
 use Rattle.kept.proofs.Log.{outcome-long}
 use Rattle.kept.proofs.States.{SizedState}
-use Rattle.run.specs.Run.{Course, begun, gone, turnAt, course, deliveredBy}
+use Rattle.run.specs.Run.{Course, courseBegun, gone, turnAt, course, deliveredBy}
 
 module _ (T : Table) (log : List ℕ) where
   pub record Good (c : Course) : Type 0 where
@@ -41,9 +41,9 @@ module _ (T : Table) (log : List ℕ) where
     }
 
     pub course-good : soundTable T ≡ true → (file : List ℕ) (count : ℕ)
-        → Good (course (deliveredBy T) file count (begun (fresh T .state) log))
+        → Good (course (deliveredBy T) file count (courseBegun (fresh T .state) log))
     unfolding course fresh
-    course-good h file count = rw h (turns-keep Good (turnAt (deliveredBy T) file) count (begun (freshState T) log)
+    course-good h file count = rw h (turns-keep Good (turnAt (deliveredBy T) file) count (courseBegun (freshState T) log)
         (λ i c below g. either (isDone (c .answer)) (gone c (deliveredBy T (c .state) (c .log) (deliveryOf file i))) c
         (gone-good c (deliveryOf file i) g) g)
         (record {

@@ -9,7 +9,7 @@ use Rattle.delivery.specs.Delivery.{sound, delivered}
 use Rattle.kept.proofs.Kept.{outcome-sound, outcome-sized}
 use Rattle.kept.proofs.States.{SizedState}
 use Rattle.laws.proofs.Turning.{turns-same}
-use Rattle.run.specs.Run.{Course, begun, gone, turnAt, course, deliveredBy, steppedBy}
+use Rattle.run.specs.Run.{Course, courseBegun, gone, turnAt, course, deliveredBy, steppedBy}
 use Rattle.schedule.specs.Schedules.{deliveryOf}
 use Rattle.schedule.specs.declared.Delivery.{Delivery}
 use Rattle.state.specs.declared.State.{State}
@@ -40,9 +40,9 @@ module _ (T : Table) (room : length (T .vectors) ≡ 16) where
   turn-same file i c h = rw (h .is-sound)
 
   pub same-course : (s : State) (log : List ℕ) → SizedState s → sound T s log ≡ true → (file : List ℕ) (count : ℕ)
-      → course (deliveredBy T) file count (begun s log)
-      ≡ course (steppedBy (T .moves) (T .vectors) (T .masks) (T .tasks) (T .gates)) file count (begun s log)
+      → course (deliveredBy T) file count (courseBegun s log)
+      ≡ course (steppedBy (T .moves) (T .vectors) (T .masks) (T .tasks) (T .gates)) file count (courseBegun s log)
   unfolding course
   same-course s log z h file count =
       turns-same Good (turnAt (deliveredBy T) file) (turnAt (steppedBy (T .moves) (T .vectors) (T .masks) (T .tasks) (T .gates)) file)
-      count (begun s log) (turn-good file) (turn-same file) (record { is-sound = h; is-sized = z })
+      count (courseBegun s log) (turn-good file) (turn-same file) (record { is-sound = h; is-sized = z })

@@ -19,7 +19,7 @@ use Rattle.state.specs.declared.Front.{Front}
 use Rattle.state.specs.declared.Front.the-variants.{Nothing, Oldest}
 use Rattle.tasks.specs.Tasks.{atTask}
 use Rattle.gates.specs.Gates.{atGate}
-use Rattle.delivery.specs.Delivery.{Outcome, withLog, refused, settledAtTask, settledAtGate, frontAtGate, toGate, frontAtTask, toTask, between}
+use Rattle.delivery.specs.Delivery.{Outcome, withLog, refused, settledAtTask, settledAtGate, frontAtGate, deliveredAtGate, frontAtTask, deliveredAtTask, between}
 use Rattle.delivery.specs.declared.Way.{Way}
 use Rattle.delivery.specs.declared.Way.the-variants.{Nowhere, Along}
 use Rattle.run.specs.Run.{steppedBy}
@@ -51,7 +51,7 @@ module _ (moves vectors masks : List ℕ) (tasks gates : ℕ) (s : State) (log :
   pub to-gate : (t : TaskNo) (g : GateNo) → way ≡ Along (ToGate t g)
       → steppedBy moves vectors masks tasks gates s log d
       ≡ atGateOf (withTask s (t .0) (popUp (taskOf s (t .0)) (g .0) .task)) (t .0) (g .0) (upOf (taskOf s (t .0)) (g .0))
-  unfolding between wayBy toGate
+  unfolding between wayBy deliveredAtGate
   to-gate t g e =
       let popped : State = withTask s (t .0) (popUp (taskOf s (t .0)) (g .0) .task) in
       let c : Channel3 = upOf (taskOf s (t .0)) (g .0) in
@@ -61,7 +61,7 @@ module _ (moves vectors masks : List ℕ) (tasks gates : ℕ) (s : State) (log :
   pub from-gate : (g : GateNo) (b : TaskNo) → way ≡ Along (FromGate g b)
       → steppedBy moves vectors masks tasks gates s log d
       ≡ atTaskOf (withGate s (g .0) (popDown (gateOf s (g .0)) (b .0) .gate)) (b .0) (downOf (gateOf s (g .0)) (b .0))
-  unfolding between wayBy toTask
+  unfolding between wayBy deliveredAtTask
   from-gate g b e =
       let popped : State = withGate s (g .0) (popDown (gateOf s (g .0)) (b .0) .gate) in
       let c : Channel1 = downOf (gateOf s (g .0)) (b .0) in
@@ -70,7 +70,7 @@ module _ (moves vectors masks : List ℕ) (tasks gates : ℕ) (s : State) (log :
   pub to-task : (a b : TaskNo) → way ≡ Along (ToTask a b)
       → steppedBy moves vectors masks tasks gates s log d
       ≡ atTaskOf (withTask s (a .0) (popAcross (taskOf s (a .0)) (b .0) .task)) (b .0) (acrossOf (taskOf s (a .0)) (b .0))
-  unfolding between wayBy toTask
+  unfolding between wayBy deliveredAtTask
   to-task a b e =
       let popped : State = withTask s (a .0) (popAcross (taskOf s (a .0)) (b .0) .task) in
       let c : Channel1 = acrossOf (taskOf s (a .0)) (b .0) in

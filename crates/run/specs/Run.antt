@@ -21,8 +21,8 @@ pub record Course : Type 0 where
   pub answer : Answer
   pub made : ℕ
 
-abbrev pub begun : State → List ℕ → Course
-begun s log = record { state = s; log = log; answer = Done; made = 0 }
+abbrev pub courseBegun : State → List ℕ → Course
+courseBegun s log = record { state = s; log = log; answer = Done; made = 0 }
 
 abbrev pub gone : Course → Outcome → Course
 gone c o = record { state = o .state; log = o .log; answer = o .answer; made = cond (isDone (o .answer)) (c .made + 1) (c .made) }

@@ -9,7 +9,7 @@ ghost use Prim.Native.Nat.{_+_, _-_, _/_, _≤_};
 ghost use lib.Dec.{ltb};
 ghost use Rattle.schedule.specs.Schedules.{deliveryOf};
 ghost use Rattle.run.specs.Parts.{wayBy, stopped};
-ghost use Rattle.run.specs.Run.{begun, course, ranOf, steppedBy};
+ghost use Rattle.run.specs.Run.{courseBegun, course, ranOf, steppedBy};
 
 // The state after the run, the last answer, and how many deliveries were done.
 pub struct Ran {
@@ -81,8 +81,8 @@ pub fn run<'a>(
     file: &'a [u8],
     count: usize,
 ) -> Ran
-    ensures state { λ r. ⌜ r ≡ ranOf (course (steppedBy (now (moves .entry)) (now (vectors .entry)) (now (masks .entry)) tasks gates) (now (file .entry)) count (begun s (now (log .entry)))) ⌝ }
-    ensures bytes { λ _. ⌜ now (log .exit) ≡ course (steppedBy (now (moves .entry)) (now (vectors .entry)) (now (masks .entry)) tasks gates) (now (file .entry)) count (begun s (now (log .entry))) .log ⌝ }
+    ensures state { λ r. ⌜ r ≡ ranOf (course (steppedBy (now (moves .entry)) (now (vectors .entry)) (now (masks .entry)) tasks gates) (now (file .entry)) count (courseBegun s (now (log .entry)))) ⌝ }
+    ensures bytes { λ _. ⌜ now (log .exit) ≡ course (steppedBy (now (moves .entry)) (now (vectors .entry)) (now (masks .entry)) tasks gates) (now (file .entry)) count (courseBegun s (now (log .entry))) .log ⌝ }
 {
     let mut i = 0;
     while i < count {

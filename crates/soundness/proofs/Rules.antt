@@ -16,7 +16,7 @@ use Rattle.table.specs.declared.Table.{Table}
 use Rattle.table.specs.declared.Move.the-variants.{To}
 use Rattle.table.proofs.Cells.{InRoom, in-room, entryOf, entry-at}
 use Rattle.soundness.proofs.Rows.{cell-sound}
-use Rattle.soundness.specs.Sound.{taskFits, taskSound, mostAt, movesSound, vectorFits, gateSound, soundTable}
+use Rattle.soundness.specs.Sound.{taskFits, taskEntrySound, mostAt, movesSound, vectorFits, gateEntrySound, soundTable}
 use Rattle.soundness.proofs.Rows.{moveSound}
 
 pub record Rules (T : Table) : Type 0 where
@@ -55,7 +55,7 @@ pub count-le : (there : Bool) (n : ℕ) → n ≤ cond there 8 0 → n ≤ 8
 count-le true n h = h
 count-le false n h = omega arith
 
-module _ (T : Table) (t : ℕ) (h : taskSound T t ≡ true) where
+module _ (T : Table) (t : ℕ) (h : taskEntrySound T t ≡ true) where
   start-of : t < T .tasks → getD (T .starts) t 0 < getD (T .states) t 0
   start-of l = ltb-true _ _ (and-right (countIn (getD (T .states) t 0)) _ (rw (lt-ltb t (T .tasks) l) at h))
 
@@ -70,7 +70,7 @@ move-of T h t x g hx hg = ⊎-elim
     leb-true _ _ (sym (cell-sound T t x g _ hx hg) ∙ each-at (moveSound T) (T .moves) h (cellOf t x g) l))
     (le-or-lt (length (T .moves)) (cellOf t x g))
 
-module _ (T : Table) (g : ℕ) (h : gateSound T g ≡ true) where
+module _ (T : Table) (g : ℕ) (h : gateEntrySound T g ≡ true) where
   abbrev count : ℕ
   count = getD (T .vectors) g 0
 
@@ -115,15 +115,15 @@ unfolding soundTable
 sound-rules T h =
     let A : Bool = countIn (T .tasks) in
     let B : Bool = countIn (T .gates) in
-    let C : Bool = allBelow 16 (taskSound T) in
+    let C : Bool = allBelow 16 (taskEntrySound T) in
     let D : Bool = movesSound T in
-    let E : Bool = allBelow 16 (gateSound T) in
+    let E : Bool = allBelow 16 (gateEntrySound T) in
     let counts : (A && B) ≡ true = and-left (A && B) (C && (D && E)) h in
     let rest : (C && (D && E)) ≡ true = and-right (A && B) (C && (D && E)) h in
     let last : (D && E) ≡ true = and-right C (D && E) rest in
     let most : T .tasks ≤ 16 = count-most (T .tasks) (and-left A B counts) in
-    let task = below-at 16 (taskSound T) (and-left C (D && E) rest) in
-    let gate = below-at 16 (gateSound T) (and-right D E last) in
+    let task = below-at 16 (taskEntrySound T) (and-left C (D && E) rest) in
+    let gate = below-at 16 (gateEntrySound T) (and-right D E last) in
     record {
       someTask = count-some (T .tasks) (and-left A B counts);
       tasks = most;

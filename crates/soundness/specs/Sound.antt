@@ -15,8 +15,8 @@ abbrev pub taskFits : Bool → ℕ → ℕ → Bool
 taskFits present states start =
     cond present (countIn states && ltb start states) (eqb states 0 && eqb start 0)
 
-abbrev pub taskSound : Table → ℕ → Bool
-taskSound T t = taskFits (ltb t (T .tasks)) (getD (T .states) t 0) (getD (T .starts) t 0)
+abbrev pub taskEntrySound : Table → ℕ → Bool
+taskEntrySound T t = taskFits (ltb t (T .tasks)) (getD (T .states) t 0) (getD (T .starts) t 0)
 
 -- the most that the cell of task t, state x and gate g holds: a transition has a present state, gate and target
 abbrev pub mostAt : Table → ℕ → ℕ → ℕ → ℕ
@@ -34,10 +34,10 @@ vectorFits masks g count tasks v =
     (eqb (maskOf masks g v) 0)
 
 -- "0 to 8 vectors a gate", none at an absent one
-abbrev pub gateSound : Table → ℕ → Bool
-gateSound T g = leb (getD (T .vectors) g 0) (cond (ltb g (T .gates)) 8 0) && allBelow 8 (vectorFits (T .masks) g (getD (T .vectors) g 0) (T .tasks))
+abbrev pub gateEntrySound : Table → ℕ → Bool
+gateEntrySound T g = leb (getD (T .vectors) g 0) (cond (ltb g (T .gates)) 8 0) && allBelow 8 (vectorFits (T .masks) g (getD (T .vectors) g 0) (T .tasks))
 
 unfoldable pub soundTable : Table → Bool
 soundTable T =
     (countIn (T .tasks) && countIn (T .gates))
-    && (allBelow 16 (taskSound T) && (movesSound T && allBelow 16 (gateSound T)))
+    && (allBelow 16 (taskEntrySound T) && (movesSound T && allBelow 16 (gateEntrySound T)))

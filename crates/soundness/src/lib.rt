@@ -8,7 +8,7 @@ ghost use lib.Dec.{ltb, leb};
 ghost use lib.ListN.{getD, replicate};
 ghost use Rattle.laws.specs.Below.{allBelow};
 ghost use Rattle.table.specs.Tables.{cellOf};
-ghost use Rattle.soundness.specs.Sound.{taskFits, taskSound, movesSound, vectorFits, gateSound, soundTable};
+ghost use Rattle.soundness.specs.Sound.{taskFits, taskEntrySound, movesSound, vectorFits, gateEntrySound, soundTable};
 
 pub fn sound(table: Table) -> bool
     ensures { λ r. ⌜ r ≡ soundTable table ⌝ }
@@ -18,7 +18,7 @@ pub fn sound(table: Table) -> bool
 }
 
 fn tasks_sound(table: Table) -> bool
-    ensures { λ r. ⌜ r ≡ allBelow 16 (taskSound table) ⌝ }
+    ensures { λ r. ⌜ r ≡ allBelow 16 (taskEntrySound table) ⌝ }
 {
     let mut ok = true;
     for t in 0..16 {
@@ -102,7 +102,7 @@ fn row_within(moves: &[u8; 4096], row: usize, limits: [u8; 16]) -> bool
 }
 
 fn gates_sound(table: Table) -> bool
-    ensures { λ r. ⌜ r ≡ allBelow 16 (gateSound table) ⌝ }
+    ensures { λ r. ⌜ r ≡ allBelow 16 (gateEntrySound table) ⌝ }
 {
     let mut ok = true;
     for g in 0..16 {

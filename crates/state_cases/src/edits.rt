@@ -156,7 +156,7 @@ fn with_table_edit(mut table: Table, e: [u8; SIZE]) -> Table {
     let cell = half(e[1], e[2]) as usize;
     match e[0] {
         COUNTS => table.with_counts(e[1], e[2]),
-        TASK => table.with_task(TaskNo(e[1]), e[2], e[3]),
+        TASK => table.with_states(TaskNo(e[1]), e[2], e[3]),
         CELL => {
             if cell < 4096 {
                 table.moves[cell] = e[3];

@@ -56,8 +56,8 @@ newBelow masks g n mask = allBelow n (λ (v : ℕ). not (eqb (maskOf masks g v) 
 abbrev pub withCounts : Table → ℕ → ℕ → Table
 withCounts T tasks gates = tableOf tasks gates (T .states) (T .starts) (T .moves) (T .vectors) (T .masks)
 
-abbrev pub withTask : Table → ℕ → ℕ → ℕ → Table
-withTask T t states start =
+abbrev pub withStates : Table → ℕ → ℕ → ℕ → Table
+withStates T t states start =
     tableOf (T .tasks) (T .gates) (set (T .states) t states) (set (T .starts) t start) (T .moves) (T .vectors) (T .masks)
 
 abbrev pub withMoves : Table → List ℕ → Table

@@ -2,7 +2,7 @@
 use numbers::GateNo;
 use numbers::TaskNo;
 ghost use mathlib.Core.Path.{_≡_};
-ghost use Rattle.table.specs.Tables.{emptyTable, withCounts, withTask, withMove, withVector, countIn, isCell, cellOf, moveOf, readyOf, maskOf, newBelow};
+ghost use Rattle.table.specs.Tables.{emptyTable, withCounts, withStates, withMove, withVector, countIn, isCell, cellOf, moveOf, readyOf, maskOf, newBelow};
 
 // Unused room is 0 throughout. Of the transitions, `moves` has a cell for each task, state and gate:
 // 0 where there is none, else one more than the state that it leads to. Of the vectors, `masks` has
@@ -54,8 +54,8 @@ impl Table {
         self
     }
 
-    pub fn with_task(mut self, task: TaskNo, states: u8, start: u8) -> Self
-        ensures { λ r. ⌜ r ≡ withTask self (task .0) states start ⌝ }
+    pub fn with_states(mut self, task: TaskNo, states: u8, start: u8) -> Self
+        ensures { λ r. ⌜ r ≡ withStates self (task .0) states start ⌝ }
     {
         let t = task.0 as usize;
         if t < Table::TASKS {

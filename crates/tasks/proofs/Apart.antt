@@ -10,7 +10,7 @@ use Rattle.table.specs.Tables.{readyOf}
 use Rattle.channels.specs.Channels.{empty3, endsReady}
 use Rattle.channels.specs.declared.Message.the-variants.{Ready}
 use Rattle.state.specs.States.{withAllUp}
-use Rattle.tasks.specs.Tasks.{with, toGate, announcedAt, announced}
+use Rattle.tasks.specs.Tasks.{with, sentUp, announcedAt, announced}
 use Rattle.tasks.specs.Parts.{announcedUpAt, announcedUp}
 use Rattle.tasks.specs.declared.Outgoing.{Outgoing}
 use Rattle.tasks.specs.declared.Work.{Work}

@@ -16,7 +16,7 @@ use Rattle.channels.specs.declared.Request.{Request}
 use Rattle.channels.specs.declared.Message.{Message}
 use Rattle.channels.specs.declared.Message.the-variants.{Commit, Abort}
 use Rattle.state.specs.States.{upOf}
-use Rattle.tasks.specs.Tasks.{toTask, entered, sentAt, sentBelow, sent, announcedAt, announced, movedTo, accepted, handled}
+use Rattle.tasks.specs.Tasks.{sentAcross, entered, sentAt, sentBelow, sent, announcedAt, announced, movedTo, accepted, handled}
 use Rattle.tasks.specs.declared.Work.{Work}
 
 turns-fired : (f : ℕ → Work → Work) → ((n : ℕ) (w : Work) → f n w .fired ≡ w .fired) → (n : ℕ) (w : Work) → upTo f n w .fired ≡ w .fired
@@ -30,7 +30,7 @@ either-fired false v w e = refl
 pub sent-fired : (b mask g : ℕ) (m : Message) (w : Work) → sent b mask g m w .fired ≡ w .fired
 unfolding sentBelow
 sent-fired b mask g m w =
-    turns-fired (sentAt mask m) (λ (y : ℕ) (v : Work). either-fired (memberOf mask y) (toTask v y m) v refl) b w
+    turns-fired (sentAt mask m) (λ (y : ℕ) (v : Work). either-fired (memberOf mask y) (sentAcross v y m) v refl) b w
 
 module _ (moves : List ℕ) (gates b : ℕ) where
   pub announced-fired : (w : Work) → announced moves gates b w .fired ≡ w .fired

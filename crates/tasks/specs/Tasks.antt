@@ -36,11 +36,11 @@ excluded p = record { task = p; ok = false; fired = 0; entries = replicate 16 no
 abbrev pub sending : Work → PutTask → Work
 sending w put = with w (put .task) (w .ok && put .room)
 
-abbrev pub toGate : Work → ℕ → Message → Work
-toGate w g m = sending w (putUp (w .task) g m)
+abbrev pub sentUp : Work → ℕ → Message → Work
+sentUp w g m = sending w (putUp (w .task) g m)
 
-abbrev pub toTask : Work → ℕ → Message → Work
-toTask w b m = sending w (putAcross (w .task) b m)
+abbrev pub sentAcross : Work → ℕ → Message → Work
+sentAcross w b m = sending w (putAcross (w .task) b m)
 
 -- "the entry is written after the log's last"
 abbrev pub entered : Work → Request → Work
@@ -60,19 +60,19 @@ heldBy g (Held r) = eqb (r .gate .0) g
 
 -- "to each lower task of the vector, ascending, then to the gate", where b is the task's own number
 abbrev pub sentAt : ℕ → Message → ℕ → Work → Work
-sentAt mask m y w = cond (memberOf mask y) (toTask w y m) w
+sentAt mask m y w = cond (memberOf mask y) (sentAcross w y m) w
 
 unfoldable pub sentBelow : ℕ → ℕ → Message → Work → Work
 sentBelow b mask m w = upTo (sentAt mask m) b w
 
 abbrev pub sent : ℕ → ℕ → ℕ → Message → Work → Work
-sent b mask g m w = toGate (sentBelow b mask m w) g m
+sent b mask g m w = sentUp (sentBelow b mask m w) g m
 
 -- The table's transitions, its count of gates, and the task's own number.
 module _ (moves : List ℕ) (gates b : ℕ) where
   -- "A READY isn't added when the newest message in that channel is a READY already"
   abbrev pub announcedAt : ℕ → ℕ → Work → Work
-  announcedAt x g w = cond (readyOf moves b x g && not (endsReady (upOf (w .task) g))) (toGate w g Ready) w
+  announcedAt x g w = cond (readyOf moves b x g && not (endsReady (upOf (w .task) g))) (sentUp w g Ready) w
 
   -- "READY to each gate the task is now ready at, ascending"
   unfoldable pub announced : Work → Work
@@ -86,7 +86,7 @@ module _ (moves : List ℕ) (gates b : ℕ) where
   -- ready, with a higher task in the vector: "Held, and LOCK to the next higher one"; ready and highest: the entry,
   -- "COMMIT to each lower task, ascending, then to the gate; it moves along its transition and announces itself"
   abbrev pub accepted : Request → ℕ → Found → Work → Work
-  accepted r mask (found.Task c) w = toTask (with w (withMode (w .task) (Held r)) (w .ok)) (c .0) (Lock r)
+  accepted r mask (found.Task c) w = sentAcross (with w (withMode (w .task) (Held r)) (w .ok)) (c .0) (Lock r)
   accepted r mask found.Nobody w =
       movedTo (moveOf moves b (w .task .state) (r .gate .0)) (sent b mask (r .gate .0) (Commit (r .gate)) (entered w r))
 

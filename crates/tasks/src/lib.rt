@@ -14,7 +14,7 @@ ghost use Prim.Native.Nat.{_+_, _≤_, _<_};
 ghost use Rattle.channels.specs.Channels.{endsReady};
 ghost use Rattle.table.specs.Tables.{readyOf};
 ghost use Rattle.tasks.specs.Parts.{announcedUp};
-ghost use Rattle.tasks.specs.Tasks.{with, begun, excluded, toGate, toTask, entered, isFree, waits, heldBy, sentBelow, sent, movedTo, accepted, handledBy, handled, listHandled, locked, committed, aborted, atTask};
+ghost use Rattle.tasks.specs.Tasks.{with, begun, excluded, sentUp, sentAcross, entered, isFree, waits, heldBy, sentBelow, sent, movedTo, accepted, handledBy, handled, listHandled, locked, committed, aborted, atTask};
 
 // The work of one delivery on its receiver: the task so far, whether all of it is allowed, and the
 // log entries of it.
@@ -65,7 +65,7 @@ impl Work {
     }
 
     fn to_gate(self, gate: GateNo, message: Message) -> Self
-        ensures { λ r. ⌜ r ≡ toGate self (gate .0) message ⌝ }
+        ensures { λ r. ⌜ r ≡ sentUp self (gate .0) message ⌝ }
     {
         let task = self.task;
         let put = task.put_up(gate, message);
@@ -74,7 +74,7 @@ impl Work {
     }
 
     fn to_task(self, task: TaskNo, message: Message) -> Self
-        ensures { λ r. ⌜ r ≡ toTask self (task .0) message ⌝ }
+        ensures { λ r. ⌜ r ≡ sentAcross self (task .0) message ⌝ }
     {
         let sender = self.task;
         let put = sender.put_across(task, message);

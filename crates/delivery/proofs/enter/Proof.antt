@@ -7,11 +7,11 @@ use lib.ListN.{length}
 use lib.Seq.{set-out}
 use borrow.Author.Needs.{needs}
 use Rattle.channels.specs.declared.Request.{Request}
-use Rattle.delivery.specs.Delivery.{entered}
+use Rattle.delivery.specs.Delivery.{enteredInLog}
 use Rattle.delivery.proofs.enter.Statement.{statement}
 use Rattle.delivery.proofs.enter.Tie as tie
 
-past-end : (log : List ℕ) (at : ℕ) (r : Request) → length log ≤ at * 2 → log ≡ entered at r log
+past-end : (log : List ℕ) (at : ℕ) (r : Request) → length log ≤ at * 2 → log ≡ enteredInLog at r log
 past-end log at r h = rw (set-out log (at * 2) (r .gate .0) h, set-out log (at * 2 + 1) (r .vector) (omega arith))
 
 add-place : tie.Need-add-place

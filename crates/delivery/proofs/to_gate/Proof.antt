@@ -1,6 +1,6 @@
 -- `to_gate` meets its contract: what the pop took is at the front, and each return has passed the tests before it.
 use borrow.Author.Needs.{needs}
-use Rattle.delivery.specs.Delivery.{toGate}
+use Rattle.delivery.specs.Delivery.{deliveredAtGate}
 use Rattle.delivery.proofs.to_gate.Statement.{statement}
 use Rattle.delivery.proofs.to_gate.Tie as tie
 
@@ -29,7 +29,7 @@ at-gate-requires : tie.Need-at-gate-requires
 at-gate-requires c κs = search needs
 
 returns : tie.Need-returns
-unfolding toGate
+unfolding deliveredAtGate
 returns c = rw (← c .before .before .before .before .before .before .before .before .pop .ensures, c .before .before .before .before .before .before .front .given .1, ← c .before .before .before .byte .ensures, ← c .before .before .at-gate .ensures, c .if1 .taken)
 
 mul-gate : tie.Need-mul-gate
@@ -39,11 +39,11 @@ element-set-from-gate : tie.Need-element-set-from-gate
 element-set-from-gate c = search needs
 
 returns-2 : tie.Need-returns-2
-unfolding toGate
+unfolding deliveredAtGate
 returns-2 c = rw (← c .before .before .pop .ensures, c .enum-told .given .1)
 
 returns-3 : tie.Need-returns-3
-unfolding toGate
+unfolding deliveredAtGate
 returns-3 c = rw (← c .before .before .before .before .before .before .before .before .before .before .pop .ensures, c .before .before .before .before .before .before .before .before .front .given .1, ← c .before .before .before .before .before .byte .ensures, ← c .before .before .before .before .at-gate .ensures, c .before .before .if1 .left)
 
 pub to-gate-spec : {M : Type 1} → statement M

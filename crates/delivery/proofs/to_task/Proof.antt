@@ -1,7 +1,7 @@
 -- `to_task` meets its contract: what the pop took is at the front.
 use mathlib.Core.Path.{_≡_}
 use borrow.Author.Needs.{needs}
-use Rattle.delivery.specs.Delivery.{result, settledAtTask, toTask}
+use Rattle.delivery.specs.Delivery.{result, settledAtTask, deliveredAtTask}
 use Rattle.delivery.proofs.to_task.Statement.{statement}
 use Rattle.delivery.proofs.to_task.Tie as tie
 
@@ -30,14 +30,14 @@ settled-requires : tie.Need-settled-requires
 settled-requires c κs = search needs
 
 returns : tie.Need-returns
-unfolding toTask
+unfolding deliveredAtTask
 returns c = (rw (← c .before .before .pop .ensures, c .enum-told .given .1), rw (← c .before .before .pop .ensures, c .enum-told .given .1))
 
 same-length : tie.Need-same-length
 same-length c = search needs
 
 returns-2 : tie.Need-returns-2
-unfolding toTask
+unfolding deliveredAtTask
 returns-2 c =
     let taken = c .before .before .before .before .before .before .before .before .before .before .before .pop in
     let front = c .before .before .before .before .before .before .before .before .before .front in

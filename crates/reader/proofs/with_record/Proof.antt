@@ -13,8 +13,8 @@ with-counts-requires c κs = search needs
 enum-known-next-2 : tie.Need-enum-known-next-2
 enum-known-next-2 c = search needs
 
-with-task-requires : tie.Need-with-task-requires
-with-task-requires c κs = search needs
+with-states-requires : tie.Need-with-states-requires
+with-states-requires c κs = search needs
 
 enum-known-next-3 : tie.Need-enum-known-next-3
 enum-known-next-3 c = search needs
@@ -34,7 +34,7 @@ returns c = rw (c .before .before .next .given .1, c .with-counts .ensures)
 
 returns-2 : tie.Need-returns-2
 unfolding withRecord
-returns-2 c = rw (c .before .before .next2 .given .1, c .with-task .ensures)
+returns-2 c = rw (c .before .before .next2 .given .1, c .with-states .ensures)
 
 returns-3 : tie.Need-returns-3
 unfolding withRecord
@@ -51,7 +51,7 @@ with-record-spec =
     enum-known-next
     with-counts-requires
     enum-known-next-2
-    with-task-requires
+    with-states-requires
     enum-known-next-3
     with-move-requires
     enum-known-next-4

@@ -6,7 +6,7 @@ use lib.ListN.{length}
 use Rattle.answers.specs.declared.Answer.the-variants.{Done, NoChannel, ChannelEmpty, LogFull, Excluded}
 use Rattle.delivery.specs.declared.Way.the-variants.{Along}
 use Rattle.kept.proofs.Log.{written-length}
-use Rattle.run.specs.Run.{Course, begun, course, ranOf, steppedBy}
+use Rattle.run.specs.Run.{Course, courseBegun, course, ranOf, steppedBy}
 use Rattle.run.proofs.Within.{link-within}
 use Rattle.run.proofs.Steps.{nowhere, to-gate, from-gate, to-task}
 use Rattle.run.proofs.Turns.{soFar, turns, turn-done, ends-refused}
@@ -16,7 +16,7 @@ use Rattle.run.proofs.run.Statement.{statement}
 use Rattle.run.proofs.run.Tie as tie
 
 abbrev Inv-loop : tie.InvT-loop
-Inv-loop moves vectors masks tasks gates log₀ file count s₀ i₀ log s i = (i ≤ count) × (length log ≡ length log₀) × (turns (steppedBy moves vectors masks tasks gates) file (begun s₀ log₀) i ≡ soFar s log Done i)
+Inv-loop moves vectors masks tasks gates log₀ file count s₀ i₀ log s i = (i ≤ count) × (length log ≡ length log₀) × (turns (steppedBy moves vectors masks tasks gates) file (courseBegun s₀ log₀) i ≡ soFar s log Done i)
 
 abbrev μ-loop : tie.MeasureT-loop
 μ-loop moves vectors masks tasks gates log₀ file count s₀ i₀ log s i = count - i
@@ -41,7 +41,7 @@ returns c =
     let a = c .before .before .before .before .before .before .before .before .before .before .before .args in
     let l = c .before .before .before .before .before .loop in
     let e = nowhere (a .moves .now) (a .vectors .now) (a .masks .now) (a .tasks) (a .gates) (l .s) (l .log) _ (c .before .before .before .way-at .result) (c .before .before .before .way-at .ensures) (c .before .enum-told .given .1) in
-    let h = ends-refused (steppedBy (a .moves .now) (a .vectors .now) (a .masks .now) (a .tasks) (a .gates)) (a .file .now) (begun (a .t6) (a .log .now)) (l .s) (l .log) (l .i) (l .inv .2) NoChannel refl e (a .count) (c .before .before .before .before .loop-test .taken) in
+    let h = ends-refused (steppedBy (a .moves .now) (a .vectors .now) (a .masks .now) (a .tasks) (a .gates)) (a .file .now) (courseBegun (a .t6) (a .log .now)) (l .s) (l .log) (l .i) (l .inv .2) NoChannel refl e (a .count) (c .before .before .before .before .loop-test .taken) in
     (c .stopped .ensures ∙ ap ranOf (sym h), ap (λ (x : Course). x .log) (sym h))
 
 enum-known-link : tie.Need-enum-known-link Inv-loop μ-loop
@@ -85,7 +85,7 @@ returns-2 c =
     let a = c .before .before .before .before .before .before .before .before .before .before .before .before .before .before .before .before .before .before .before .before .before .before .before .args in
     let l = c .before .before .before .before .before .before .before .before .before .before .before .before .before .before .before .before .before .loop in
     let e = to-gate (a .moves .now) (a .vectors .now) (a .masks .now) (a .tasks) (a .gates) (l .s) (l .log) _ (c .before .before .before .before .before .before .before .before .before .before .before .before .before .before .before .way-at .result) (c .before .before .before .before .before .before .before .before .before .before .before .before .before .before .before .way-at .ensures) _ _ (c .before .before .before .before .before .before .before .before .before .before .before .before .before .link .given .1 ∙ ap Along (c .before .before .before .before .before .before .before .before .before .before .link2 .given .1)) in
-    let h = ends-refused (steppedBy (a .moves .now) (a .vectors .now) (a .masks .now) (a .tasks) (a .gates)) (a .file .now) (begun (a .t6) (a .log .now)) (l .s) (l .log) (l .i) (l .inv .2) ChannelEmpty refl (e ∙ rw (eq-eqb _ _ (c .before .if1 .taken))) (a .count) (c .before .before .before .before .before .before .before .before .before .before .before .before .before .before .before .before .loop-test .taken) in
+    let h = ends-refused (steppedBy (a .moves .now) (a .vectors .now) (a .masks .now) (a .tasks) (a .gates)) (a .file .now) (courseBegun (a .t6) (a .log .now)) (l .s) (l .log) (l .i) (l .inv .2) ChannelEmpty refl (e ∙ rw (eq-eqb _ _ (c .before .if1 .taken))) (a .count) (c .before .before .before .before .before .before .before .before .before .before .before .before .before .before .before .before .loop-test .taken) in
     (c .stopped2 .ensures ∙ ap ranOf (sym h), ap (λ (x : Course). x .log) (sym h))
 
 byte-requires : tie.Need-byte-requires Inv-loop μ-loop
@@ -105,7 +105,7 @@ returns-3 c =
     let a = c .before .before .before .before .before .before .before .before .before .before .before .before .before .before .before .before .before .before .before .before .before .before .before .before .before .before .before .args in
     let l = c .before .before .before .before .before .before .before .before .before .before .before .before .before .before .before .before .before .before .before .before .before .loop in
     let e = to-gate (a .moves .now) (a .vectors .now) (a .masks .now) (a .tasks) (a .gates) (l .s) (l .log) _ (c .before .before .before .before .before .before .before .before .before .before .before .before .before .before .before .before .before .before .before .way-at .result) (c .before .before .before .before .before .before .before .before .before .before .before .before .before .before .before .before .before .before .before .way-at .ensures) _ _ (c .before .before .before .before .before .before .before .before .before .before .before .before .before .before .before .before .before .link .given .1 ∙ ap Along (c .before .before .before .before .before .before .before .before .before .before .before .before .before .before .link2 .given .1)) in
-    let h = ends-refused (steppedBy (a .moves .now) (a .vectors .now) (a .masks .now) (a .tasks) (a .gates)) (a .file .now) (begun (a .t6) (a .log .now)) (l .s) (l .log) (l .i) (l .inv .2) Excluded refl (e ∙ rw (ne-eqb _ _ (c .before .before .before .before .before .if1 .left), ← c .before .before .before .before .byte .ensures, ← c .before .before .before .at-gate .ensures, c .before .if2 .taken)) (a .count) (c .before .before .before .before .before .before .before .before .before .before .before .before .before .before .before .before .before .before .before .before .loop-test .taken) in
+    let h = ends-refused (steppedBy (a .moves .now) (a .vectors .now) (a .masks .now) (a .tasks) (a .gates)) (a .file .now) (courseBegun (a .t6) (a .log .now)) (l .s) (l .log) (l .i) (l .inv .2) Excluded refl (e ∙ rw (ne-eqb _ _ (c .before .before .before .before .before .if1 .left), ← c .before .before .before .before .byte .ensures, ← c .before .before .before .at-gate .ensures, c .before .if2 .taken)) (a .count) (c .before .before .before .before .before .before .before .before .before .before .before .before .before .before .before .before .before .before .before .before .loop-test .taken) in
     (c .stopped3 .ensures ∙ ap ranOf (sym h), ap (λ (x : Course). x .log) (sym h))
 
 popped-requires : tie.Need-popped-requires Inv-loop μ-loop
@@ -147,7 +147,7 @@ loop-again c =
     let l = c .before .before .before .before .before .before .before .before .before .before .before .before .before .before .before .before .before .before .before .before .before .before .before .loop in
     let t = c .before .before .before .before .before .before .before .before .before .before .before .before .before .before .before .before .before .before .before .before .before .before .loop-test .taken in
     let e = to-gate (a .moves .now) (a .vectors .now) (a .masks .now) (a .tasks) (a .gates) (l .s) (l .log) _ (c .before .before .before .before .before .before .before .before .before .before .before .before .before .before .before .before .before .before .before .before .before .way-at .result) (c .before .before .before .before .before .before .before .before .before .before .before .before .before .before .before .before .before .before .before .before .before .way-at .ensures) _ _ (c .before .before .before .before .before .before .before .before .before .before .before .before .before .before .before .before .before .before .before .link .given .1 ∙ ap Along (c .before .before .before .before .before .before .before .before .before .before .before .before .before .before .before .before .link2 .given .1)) in
-    let h = turn-done (steppedBy (a .moves .now) (a .vectors .now) (a .masks .now) (a .tasks) (a .gates)) (a .file .now) (begun (a .t6) (a .log .now)) (l .s) (l .log) (l .i) (l .inv .2) _ _ (rw (ne-eqb _ _ (c .before .before .before .before .before .before .before .if1 .left), ← c .before .before .before .before .before .before .byte .ensures, ← c .before .before .before .before .before .at-gate .ensures, c .before .before .before .if2 .left) at e) in
+    let h = turn-done (steppedBy (a .moves .now) (a .vectors .now) (a .masks .now) (a .tasks) (a .gates)) (a .file .now) (courseBegun (a .t6) (a .log .now)) (l .s) (l .log) (l .i) (l .inv .2) _ _ (rw (ne-eqb _ _ (c .before .before .before .before .before .before .before .if1 .left), ← c .before .before .before .before .before .before .byte .ensures, ← c .before .before .before .before .before .at-gate .ensures, c .before .before .before .if2 .left) at e) in
     (omega arith, l .inv .1, rw (c .with-all-up .ensures, c .before .popped .ensures) h)
 
 enum-known-link-3 : tie.Need-enum-known-link-3 Inv-loop μ-loop
@@ -188,7 +188,7 @@ returns-4 c =
     let a = c .before .before .before .before .before .before .before .before .before .before .before .before .before .before .before .before .before .before .before .before .before .before .args in
     let l = c .before .before .before .before .before .before .before .before .before .before .before .before .before .before .before .before .loop in
     let e = from-gate (a .moves .now) (a .vectors .now) (a .masks .now) (a .tasks) (a .gates) (l .s) (l .log) _ (c .before .before .before .before .before .before .before .before .before .before .before .before .before .before .way-at .result) (c .before .before .before .before .before .before .before .before .before .before .before .before .before .before .way-at .ensures) _ _ (c .before .before .before .before .before .before .before .before .before .before .before .before .link .given .1 ∙ ap Along (c .before .before .before .before .before .before .before .before .before .link3 .given .1)) in
-    let h = ends-refused (steppedBy (a .moves .now) (a .vectors .now) (a .masks .now) (a .tasks) (a .gates)) (a .file .now) (begun (a .t6) (a .log .now)) (l .s) (l .log) (l .i) (l .inv .2) ChannelEmpty refl (e ∙ rw (eq-eqb _ _ (c .before .if3 .taken))) (a .count) (c .before .before .before .before .before .before .before .before .before .before .before .before .before .before .before .loop-test .taken) in
+    let h = ends-refused (steppedBy (a .moves .now) (a .vectors .now) (a .masks .now) (a .tasks) (a .gates)) (a .file .now) (courseBegun (a .t6) (a .log .now)) (l .s) (l .log) (l .i) (l .inv .2) ChannelEmpty refl (e ∙ rw (eq-eqb _ _ (c .before .if3 .taken))) (a .count) (c .before .before .before .before .before .before .before .before .before .before .before .before .before .before .before .loop-test .taken) in
     (c .stopped4 .ensures ∙ ap ranOf (sym h), ap (λ (x : Course). x .log) (sym h))
 
 at-task-requires : tie.Need-at-task-requires Inv-loop μ-loop
@@ -205,7 +205,7 @@ returns-5 c =
     let a = c .before .before .before .before .before .before .before .before .before .before .before .before .before .before .before .before .before .before .before .before .before .before .before .before .before .args in
     let l = c .before .before .before .before .before .before .before .before .before .before .before .before .before .before .before .before .before .before .before .loop in
     let e = from-gate (a .moves .now) (a .vectors .now) (a .masks .now) (a .tasks) (a .gates) (l .s) (l .log) _ (c .before .before .before .before .before .before .before .before .before .before .before .before .before .before .before .before .before .way-at .result) (c .before .before .before .before .before .before .before .before .before .before .before .before .before .before .before .before .before .way-at .ensures) _ _ (c .before .before .before .before .before .before .before .before .before .before .before .before .before .before .before .link .given .1 ∙ ap Along (c .before .before .before .before .before .before .before .before .before .before .before .before .link3 .given .1)) in
-    let h = ends-refused (steppedBy (a .moves .now) (a .vectors .now) (a .masks .now) (a .tasks) (a .gates)) (a .file .now) (begun (a .t6) (a .log .now)) (l .s) (l .log) (l .i) (l .inv .2) Excluded refl (e ∙ rw (ne-eqb _ _ (c .before .before .before .before .if3 .left), ← c .before .before .before .at-task .ensures, c .before .if4 .taken)) (a .count) (c .before .before .before .before .before .before .before .before .before .before .before .before .before .before .before .before .before .before .loop-test .taken) in
+    let h = ends-refused (steppedBy (a .moves .now) (a .vectors .now) (a .masks .now) (a .tasks) (a .gates)) (a .file .now) (courseBegun (a .t6) (a .log .now)) (l .s) (l .log) (l .i) (l .inv .2) Excluded refl (e ∙ rw (ne-eqb _ _ (c .before .before .before .before .if3 .left), ← c .before .before .before .at-task .ensures, c .before .if4 .taken)) (a .count) (c .before .before .before .before .before .before .before .before .before .before .before .before .before .before .before .before .before .before .loop-test .taken) in
     (c .stopped5 .ensures ∙ ap ranOf (sym h), ap (λ (x : Course). x .log) (sym h))
 
 is-full-requires : tie.Need-is-full-requires Inv-loop μ-loop
@@ -223,7 +223,7 @@ returns-6 c =
     let l = c .before .before .before .before .before .before .before .before .before .before .before .before .before .before .before .before .before .before .before .before .before .loop in
     let e = from-gate (a .moves .now) (a .vectors .now) (a .masks .now) (a .tasks) (a .gates) (l .s) (l .log) _ (c .before .before .before .before .before .before .before .before .before .before .before .before .before .before .before .before .before .before .before .way-at .result) (c .before .before .before .before .before .before .before .before .before .before .before .before .before .before .before .before .before .before .before .way-at .ensures) _ _ (c .before .before .before .before .before .before .before .before .before .before .before .before .before .before .before .before .before .link .given .1 ∙ ap Along (c .before .before .before .before .before .before .before .before .before .before .before .before .before .before .link3 .given .1)) in
     let full = sym (c .before .before .is-full .ensures) ∙ c .before .if5 .taken in
-    let h = ends-refused (steppedBy (a .moves .now) (a .vectors .now) (a .masks .now) (a .tasks) (a .gates)) (a .file .now) (begun (a .t6) (a .log .now)) (l .s) (l .log) (l .i) (l .inv .2) LogFull refl (e ∙ rw (ne-eqb _ _ (c .before .before .before .before .before .before .if3 .left), ← c .before .before .before .before .before .at-task .ensures, c .before .before .before .if4 .left, full)) (a .count) (c .before .before .before .before .before .before .before .before .before .before .before .before .before .before .before .before .before .before .before .before .loop-test .taken) in
+    let h = ends-refused (steppedBy (a .moves .now) (a .vectors .now) (a .masks .now) (a .tasks) (a .gates)) (a .file .now) (courseBegun (a .t6) (a .log .now)) (l .s) (l .log) (l .i) (l .inv .2) LogFull refl (e ∙ rw (ne-eqb _ _ (c .before .before .before .before .before .before .if3 .left), ← c .before .before .before .before .before .at-task .ensures, c .before .before .before .if4 .left, full)) (a .count) (c .before .before .before .before .before .before .before .before .before .before .before .before .before .before .before .before .before .before .before .before .loop-test .taken) in
     (c .stopped6 .ensures ∙ ap ranOf (sym h), ap (λ (x : Course). x .log) (sym h))
 
 empty-requires : tie.Need-empty-requires Inv-loop μ-loop
@@ -269,7 +269,7 @@ loop-again-2 c =
     let t = c .before .before .before .before .before .before .before .before .before .before .before .before .before .before .before .before .before .before .before .before .before .before .before .before .before .before .before .loop-test .taken in
     let e = from-gate (a .moves .now) (a .vectors .now) (a .masks .now) (a .tasks) (a .gates) (l .s) (l .log) _ (c .before .before .before .before .before .before .before .before .before .before .before .before .before .before .before .before .before .before .before .before .before .before .before .before .before .before .way-at .result) (c .before .before .before .before .before .before .before .before .before .before .before .before .before .before .before .before .before .before .before .before .before .before .before .before .before .before .way-at .ensures) _ _ (c .before .before .before .before .before .before .before .before .before .before .before .before .before .before .before .before .before .before .before .before .before .before .before .before .link .given .1 ∙ ap Along (c .before .before .before .before .before .before .before .before .before .before .before .before .before .before .before .before .before .before .before .before .before .link3 .given .1)) in
     let full = sym (c .before .before .before .before .before .before .before .before .before .is-full .ensures) ∙ c .before .before .before .before .before .before .before .before .if5 .left in
-    let h = turn-done (steppedBy (a .moves .now) (a .vectors .now) (a .masks .now) (a .tasks) (a .gates)) (a .file .now) (begun (a .t6) (a .log .now)) (l .s) (l .log) (l .i) (l .inv .2) _ _ (rw (ne-eqb _ _ (c .before .before .before .before .before .before .before .before .before .before .before .before .before .if3 .left), ← c .before .before .before .before .before .before .before .before .before .before .before .before .at-task .ensures, c .before .before .before .before .before .before .before .before .before .before .if4 .left, full) at e) in
+    let h = turn-done (steppedBy (a .moves .now) (a .vectors .now) (a .masks .now) (a .tasks) (a .gates)) (a .file .now) (courseBegun (a .t6) (a .log .now)) (l .s) (l .log) (l .i) (l .inv .2) _ _ (rw (ne-eqb _ _ (c .before .before .before .before .before .before .before .before .before .before .before .before .before .if3 .left), ← c .before .before .before .before .before .before .before .before .before .before .before .before .at-task .ensures, c .before .before .before .before .before .before .before .before .before .before .if4 .left, full) at e) in
     (omega arith, ap length (c .before .before .write .ensures) ∙ written-length (l .s .logged) (c .before .before .before .before .before .before .before .before .before .before .before .before .at-task .result) (l .log) ∙ l .inv .1, rw (c .before .before .write .ensures, c .before .before .before .before .counted .ensures, c .before .before .before .before .before .empty .ensures) h)
 
 enum-known-link-4 : tie.Need-enum-known-link-4 Inv-loop μ-loop
@@ -310,7 +310,7 @@ returns-7 c =
     let a = c .before .before .before .before .before .before .before .before .before .before .before .before .before .before .before .before .before .before .before .before .before .before .before .args in
     let l = c .before .before .before .before .before .before .before .before .before .before .before .before .before .before .before .before .before .loop in
     let e = to-task (a .moves .now) (a .vectors .now) (a .masks .now) (a .tasks) (a .gates) (l .s) (l .log) _ (c .before .before .before .before .before .before .before .before .before .before .before .before .before .before .before .way-at .result) (c .before .before .before .before .before .before .before .before .before .before .before .before .before .before .before .way-at .ensures) _ _ (c .before .before .before .before .before .before .before .before .before .before .before .before .before .link .given .1 ∙ ap Along (c .before .before .before .before .before .before .before .before .before .before .link4 .given .1)) in
-    let h = ends-refused (steppedBy (a .moves .now) (a .vectors .now) (a .masks .now) (a .tasks) (a .gates)) (a .file .now) (begun (a .t6) (a .log .now)) (l .s) (l .log) (l .i) (l .inv .2) ChannelEmpty refl (e ∙ rw (eq-eqb _ _ (c .before .if6 .taken))) (a .count) (c .before .before .before .before .before .before .before .before .before .before .before .before .before .before .before .before .loop-test .taken) in
+    let h = ends-refused (steppedBy (a .moves .now) (a .vectors .now) (a .masks .now) (a .tasks) (a .gates)) (a .file .now) (courseBegun (a .t6) (a .log .now)) (l .s) (l .log) (l .i) (l .inv .2) ChannelEmpty refl (e ∙ rw (eq-eqb _ _ (c .before .if6 .taken))) (a .count) (c .before .before .before .before .before .before .before .before .before .before .before .before .before .before .before .before .loop-test .taken) in
     (c .stopped7 .ensures ∙ ap ranOf (sym h), ap (λ (x : Course). x .log) (sym h))
 
 at-task-requires-2 : tie.Need-at-task-requires-2 Inv-loop μ-loop
@@ -327,7 +327,7 @@ returns-8 c =
     let a = c .before .before .before .before .before .before .before .before .before .before .before .before .before .before .before .before .before .before .before .before .before .before .before .before .before .before .args in
     let l = c .before .before .before .before .before .before .before .before .before .before .before .before .before .before .before .before .before .before .before .before .loop in
     let e = to-task (a .moves .now) (a .vectors .now) (a .masks .now) (a .tasks) (a .gates) (l .s) (l .log) _ (c .before .before .before .before .before .before .before .before .before .before .before .before .before .before .before .before .before .before .way-at .result) (c .before .before .before .before .before .before .before .before .before .before .before .before .before .before .before .before .before .before .way-at .ensures) _ _ (c .before .before .before .before .before .before .before .before .before .before .before .before .before .before .before .before .link .given .1 ∙ ap Along (c .before .before .before .before .before .before .before .before .before .before .before .before .before .link4 .given .1)) in
-    let h = ends-refused (steppedBy (a .moves .now) (a .vectors .now) (a .masks .now) (a .tasks) (a .gates)) (a .file .now) (begun (a .t6) (a .log .now)) (l .s) (l .log) (l .i) (l .inv .2) Excluded refl (e ∙ rw (ne-eqb _ _ (c .before .before .before .before .if6 .left), ← c .before .before .before .at-task2 .ensures, c .before .if7 .taken)) (a .count) (c .before .before .before .before .before .before .before .before .before .before .before .before .before .before .before .before .before .before .before .loop-test .taken) in
+    let h = ends-refused (steppedBy (a .moves .now) (a .vectors .now) (a .masks .now) (a .tasks) (a .gates)) (a .file .now) (courseBegun (a .t6) (a .log .now)) (l .s) (l .log) (l .i) (l .inv .2) Excluded refl (e ∙ rw (ne-eqb _ _ (c .before .before .before .before .if6 .left), ← c .before .before .before .at-task2 .ensures, c .before .if7 .taken)) (a .count) (c .before .before .before .before .before .before .before .before .before .before .before .before .before .before .before .before .before .before .before .loop-test .taken) in
     (c .stopped8 .ensures ∙ ap ranOf (sym h), ap (λ (x : Course). x .log) (sym h))
 
 is-full-requires-2 : tie.Need-is-full-requires-2 Inv-loop μ-loop
@@ -345,7 +345,7 @@ returns-9 c =
     let l = c .before .before .before .before .before .before .before .before .before .before .before .before .before .before .before .before .before .before .before .before .before .before .loop in
     let e = to-task (a .moves .now) (a .vectors .now) (a .masks .now) (a .tasks) (a .gates) (l .s) (l .log) _ (c .before .before .before .before .before .before .before .before .before .before .before .before .before .before .before .before .before .before .before .before .way-at .result) (c .before .before .before .before .before .before .before .before .before .before .before .before .before .before .before .before .before .before .before .before .way-at .ensures) _ _ (c .before .before .before .before .before .before .before .before .before .before .before .before .before .before .before .before .before .before .link .given .1 ∙ ap Along (c .before .before .before .before .before .before .before .before .before .before .before .before .before .before .before .link4 .given .1)) in
     let full = sym (c .before .before .is-full2 .ensures) ∙ c .before .if8 .taken in
-    let h = ends-refused (steppedBy (a .moves .now) (a .vectors .now) (a .masks .now) (a .tasks) (a .gates)) (a .file .now) (begun (a .t6) (a .log .now)) (l .s) (l .log) (l .i) (l .inv .2) LogFull refl (e ∙ rw (ne-eqb _ _ (c .before .before .before .before .before .before .if6 .left), ← c .before .before .before .before .before .at-task2 .ensures, c .before .before .before .if7 .left, full)) (a .count) (c .before .before .before .before .before .before .before .before .before .before .before .before .before .before .before .before .before .before .before .before .before .loop-test .taken) in
+    let h = ends-refused (steppedBy (a .moves .now) (a .vectors .now) (a .masks .now) (a .tasks) (a .gates)) (a .file .now) (courseBegun (a .t6) (a .log .now)) (l .s) (l .log) (l .i) (l .inv .2) LogFull refl (e ∙ rw (ne-eqb _ _ (c .before .before .before .before .before .before .if6 .left), ← c .before .before .before .before .before .at-task2 .ensures, c .before .before .before .if7 .left, full)) (a .count) (c .before .before .before .before .before .before .before .before .before .before .before .before .before .before .before .before .before .before .before .before .before .loop-test .taken) in
     (c .stopped9 .ensures ∙ ap ranOf (sym h), ap (λ (x : Course). x .log) (sym h))
 
 empty-requires-2 : tie.Need-empty-requires-2 Inv-loop μ-loop
@@ -394,7 +394,7 @@ loop-again-3 c =
     let t = c .before .before .before .before .before .before .before .before .before .before .before .before .before .before .before .before .before .before .before .before .before .before .before .before .before .before .before .before .before .loop-test .taken in
     let e = to-task (a .moves .now) (a .vectors .now) (a .masks .now) (a .tasks) (a .gates) (l .s) (l .log) _ (c .before .before .before .before .before .before .before .before .before .before .before .before .before .before .before .before .before .before .before .before .before .before .before .before .before .before .before .before .way-at .result) (c .before .before .before .before .before .before .before .before .before .before .before .before .before .before .before .before .before .before .before .before .before .before .before .before .before .before .before .before .way-at .ensures) _ _ (c .before .before .before .before .before .before .before .before .before .before .before .before .before .before .before .before .before .before .before .before .before .before .before .before .before .before .link .given .1 ∙ ap Along (c .before .before .before .before .before .before .before .before .before .before .before .before .before .before .before .before .before .before .before .before .before .before .before .link4 .given .1)) in
     let full = sym (c .before .before .before .before .before .before .before .before .before .before .is-full2 .ensures) ∙ c .before .before .before .before .before .before .before .before .before .if8 .left in
-    let h = turn-done (steppedBy (a .moves .now) (a .vectors .now) (a .masks .now) (a .tasks) (a .gates)) (a .file .now) (begun (a .t6) (a .log .now)) (l .s) (l .log) (l .i) (l .inv .2) _ _ (rw (ne-eqb _ _ (c .before .before .before .before .before .before .before .before .before .before .before .before .before .before .if6 .left), ← c .before .before .before .before .before .before .before .before .before .before .before .before .before .at-task2 .ensures, c .before .before .before .before .before .before .before .before .before .before .before .if7 .left, full) at e) in
+    let h = turn-done (steppedBy (a .moves .now) (a .vectors .now) (a .masks .now) (a .tasks) (a .gates)) (a .file .now) (courseBegun (a .t6) (a .log .now)) (l .s) (l .log) (l .i) (l .inv .2) _ _ (rw (ne-eqb _ _ (c .before .before .before .before .before .before .before .before .before .before .before .before .before .before .if6 .left), ← c .before .before .before .before .before .before .before .before .before .before .before .before .before .at-task2 .ensures, c .before .before .before .before .before .before .before .before .before .before .before .if7 .left, full) at e) in
     (omega arith, ap length (c .before .before .write2 .ensures) ∙ written-length (l .s .logged) (c .before .before .before .before .before .before .before .before .before .before .before .before .before .at-task2 .result) (l .log) ∙ l .inv .1, rw (c .before .before .write2 .ensures, c .before .before .before .before .counted2 .ensures, c .before .before .before .before .before .with-all-across .ensures, c .before .before .before .before .before .before .empty2 .ensures) h)
 
 same-length-10 : tie.Need-same-length-10 Inv-loop μ-loop

@@ -8,12 +8,12 @@ use lib.ListN.{getD}
 use borrow.Author.Needs.{needs}
 use Rattle.laws.proofs.Numbers.{below-none, below-turn}
 use Rattle.laws.specs.Below.{allBelow}
-use Rattle.soundness.specs.Sound.{gateSound}
+use Rattle.soundness.specs.Sound.{gateEntrySound}
 use Rattle.soundness.proofs.gates_sound.Statement.{statement}
 use Rattle.soundness.proofs.gates_sound.Tie as tie
 
 abbrev Inv-loop : tie.InvT-loop
-Inv-loop table ok₀ g₀ ok g = (g ≤ 16) × (ok ≡ allBelow g (gateSound table))
+Inv-loop table ok₀ g₀ ok g = (g ≤ 16) × (ok ≡ allBelow g (gateEntrySound table))
 
 abbrev μ-loop : tie.MeasureT-loop
 μ-loop table ok₀ g₀ ok g = 16 - g
@@ -47,7 +47,7 @@ loop-again c =
     let w = c .before .before .before .before .before .before .before .loop in
     let T = c .before .before .before .before .before .before .before .before .args .t1 in (
       search needs,
-      below-turn (w .g) (gateSound T)
+      below-turn (w .g) (gateEntrySound T)
           (leb (getD (T .vectors) (w .g) 0) (c .before .before .before .before .limit .result) && c .vectors-sound .result)
           (w .ok) (rw (c .before .before .before .before .limit .ensures, c .vectors-sound .ensures)) (w .inv .1),
     )

@@ -5,12 +5,12 @@ use native.Mathlib.Omega.{arith}
 use borrow.Author.Needs.{needs}
 use Rattle.laws.proofs.Numbers.{below-none, below-turn}
 use Rattle.laws.specs.Below.{allBelow}
-use Rattle.soundness.specs.Sound.{taskSound}
+use Rattle.soundness.specs.Sound.{taskEntrySound}
 use Rattle.soundness.proofs.tasks_sound.Statement.{statement}
 use Rattle.soundness.proofs.tasks_sound.Tie as tie
 
 abbrev Inv-loop : tie.InvT-loop
-Inv-loop table ok₀ t₀ ok t = (t ≤ 16) × (ok ≡ allBelow t (taskSound table))
+Inv-loop table ok₀ t₀ ok t = (t ≤ 16) × (ok ≡ allBelow t (taskEntrySound table))
 
 abbrev μ-loop : tie.MeasureT-loop
 μ-loop table ok₀ t₀ ok t = 16 - t
@@ -40,7 +40,7 @@ loop-again : tie.Need-loop-again Inv-loop μ-loop
 loop-again c =
     let w = c .before .before .before .before .loop in (
       search needs,
-      below-turn (w .t) (taskSound (c .before .before .before .before .before .args .t1)) _ _ (c .task-sound .ensures)
+      below-turn (w .t) (taskEntrySound (c .before .before .before .before .before .args .t1)) _ _ (c .task-sound .ensures)
           (w .inv .1),
     )
 

@@ -5,7 +5,7 @@ use mathlib.Core.Path.{_≡_, refl, sym, ap, _∙_}
 use native.Mathlib.Omega.{arith}
 use lib.ListN.{length}
 use Rattle.answers.specs.Answers.{isDone}
-use Rattle.run.specs.Run.{Course, begun, course, deliveredBy, ranOf}
+use Rattle.run.specs.Run.{Course, courseBegun, course, deliveredBy, ranOf}
 use Rattle.run.proofs.Turns.{soFar, turns}
 use Rattle.bench.proofs.Turns.{turn-done, turn-last}
 use borrow.Author.Needs.{needs}
@@ -14,7 +14,7 @@ use Rattle.bench.proofs.rounds.delivered.Statement.{statement}
 use Rattle.bench.proofs.rounds.delivered.Tie as tie
 
 abbrev Inv-loop : tie.InvT-loop
-Inv-loop table log₀ schedule count s₀ answer₀ i₀ log s answer i = (i ≤ count) × (length log ≡ length log₀) × (isDone answer ≡ true) × (turns (deliveredBy table) schedule (begun s₀ log₀) i ≡ soFar s log answer i)
+Inv-loop table log₀ schedule count s₀ answer₀ i₀ log s answer i = (i ≤ count) × (length log ≡ length log₀) × (isDone answer ≡ true) × (turns (deliveredBy table) schedule (courseBegun s₀ log₀) i ≡ soFar s log answer i)
 
 abbrev μ-loop : tie.MeasureT-loop
 μ-loop table log₀ schedule count s₀ answer₀ i₀ log s answer i = count - i
@@ -41,7 +41,7 @@ returns c =
     let d = c .before .before .before .before .before .before .before .delivery-at in
     let r = c .before .before .before .before .before .deliver in
     let n : isDone (r .result .answer) ≡ false = sym (c .before .is-done .ensures) ∙ not-true (c .before .is-done .result) (c .if1 .taken) in
-    let h = turn-last (deliveredBy (a .table)) (a .schedule .now) (begun (a .s) (a .log .now)) (l .s) (l .log) (l .answer) (l .i) (l .inv .3) (l .inv .2) _ refl (rw (r .ensures .0, d .ensures) at n) (a .count) (c .before .before .before .before .before .before .before .before .loop-test .taken) in
+    let h = turn-last (deliveredBy (a .table)) (a .schedule .now) (courseBegun (a .s) (a .log .now)) (l .s) (l .log) (l .answer) (l .i) (l .inv .3) (l .inv .2) _ refl (rw (r .ensures .0, d .ensures) at n) (a .count) (c .before .before .before .before .before .before .before .before .loop-test .taken) in
     (rw (r .ensures .0, d .ensures) (ap ranOf (sym h)), rw (r .ensures .1, d .ensures) (ap (λ (x : Course). x .log) (sym h)))
 
 add-i : tie.Need-add-i Inv-loop μ-loop
@@ -57,7 +57,7 @@ loop-again c =
     let d = c .before .before .before .before .before .before .before .delivery-at in
     let r = c .before .before .before .before .before .deliver in
     let y : isDone (r .result .answer) ≡ true = sym (c .before .is-done .ensures) ∙ not-false (c .before .is-done .result) (c .if1 .left) in
-    let h = turn-done (deliveredBy (a .table)) (a .schedule .now) (begun (a .s) (a .log .now)) (l .s) (l .log) (l .answer) (l .i) (l .inv .3) (l .inv .2) _ refl (rw (r .ensures .0, d .ensures) at y) in
+    let h = turn-done (deliveredBy (a .table)) (a .schedule .now) (courseBegun (a .s) (a .log .now)) (l .s) (l .log) (l .answer) (l .i) (l .inv .3) (l .inv .2) _ refl (rw (r .ensures .0, d .ensures) at y) in
     (search needs, search needs, y, rw (r .ensures .0, r .ensures .1, d .ensures) h)
 
 same-length-2 : tie.Need-same-length-2 Inv-loop μ-loop

@@ -5,7 +5,7 @@ use native.Mathlib.Omega.{arith}
 use lib.ListN.{length}
 use Rattle.laws.specs.Turns.{upTo}
 use Rattle.laws.proofs.Turning.{turn-more}
-use Rattle.run.specs.Run.{begun, ranOf}
+use Rattle.run.specs.Run.{courseBegun, ranOf}
 use Rattle.state.specs.States.{emptyState}
 use Rattle.bench.specs.Rounds.{turnOf, roundsOf}
 use borrow.Author.Needs.{needs}
@@ -13,7 +13,7 @@ use Rattle.bench.proofs.rounds.repeated.Statement.{statement}
 use Rattle.bench.proofs.rounds.repeated.Tie as tie
 
 abbrev Inv-loop : tie.InvT-loop
-Inv-loop mode table log₀ schedule count rounds ran₀ i₀ log ran i = (i ≤ rounds) × (length log ≡ length log₀) × (ran ≡ ranOf (upTo (turnOf mode table schedule count) i (begun emptyState log₀))) × (log ≡ upTo (turnOf mode table schedule count) i (begun emptyState log₀) .log)
+Inv-loop mode table log₀ schedule count rounds ran₀ i₀ log ran i = (i ≤ rounds) × (length log ≡ length log₀) × (ran ≡ ranOf (upTo (turnOf mode table schedule count) i (courseBegun emptyState log₀))) × (log ≡ upTo (turnOf mode table schedule count) i (courseBegun emptyState log₀) .log)
 
 abbrev μ-loop : tie.MeasureT-loop
 μ-loop mode table log₀ schedule count rounds ran₀ i₀ log ran i = rounds - i
@@ -41,7 +41,7 @@ loop-again c =
     let a = c .before .before .before .before .before .before .before .before .before .before .args in
     let l = c .before .before .before .before .before .loop in
     let r = c .before .before .round in
-    let more = turn-more (turnOf (a .mode) (a .table) (a .schedule .now) (a .count)) (l .i) (begun emptyState (a .log .now)) in
+    let more = turn-more (turnOf (a .mode) (a .table) (a .schedule .now) (a .count)) (l .i) (courseBegun emptyState (a .log .now)) in
     (search needs, search needs, rw (more, ← l .inv .3) (r .ensures .0), rw (more, ← l .inv .3) (r .ensures .1))
 
 same-length : tie.Need-same-length Inv-loop μ-loop

@@ -1,12 +1,12 @@
--- `with_task` meets its contract; at an absent task both stores fall outside.
+-- `with_states` meets its contract; at an absent task both stores fall outside.
 use Prim.Native.Nat.{_≤_}
 use mathlib.Core.Path.{_≡_}
 use native.Mathlib.Omega.{arith}
 use lib.ListN.{length}
 use lib.Seq.{set-out}
 use borrow.Author.Needs.{needs}
-use Rattle.table.proofs.Table.with_task.Statement.{statement}
-use Rattle.table.proofs.Table.with_task.Tie as tie
+use Rattle.table.proofs.Table.with_states.Statement.{statement}
+use Rattle.table.proofs.Table.with_states.Tie as tie
 
 cast-t : tie.Need-cast-t
 cast-t c = search needs
@@ -29,6 +29,6 @@ returns-2 c =
     let k : length (a .t1 .starts) ≤ a .task .0 = omega arith in
     rw (set-out (a .t1 .states) (a .task .0), set-out (a .t1 .starts) (a .task .0))
 
-pub with-task-spec : {M : Type 1} → statement M
-with-task-spec =
+pub with-states-spec : {M : Type 1} → statement M
+with-states-spec =
     tie.close (tie.spec cast-t element-write-self element-write-self-2 returns returns-2)
