@@ -1,6 +1,6 @@
 -- Every entry that a delivery writes names a gate below 16 and a vector below 8.
 use Prim.Native.Nat.{ℕ, suc, zero, _+_, _*_, _<_, _≤_}
-use mathlib.Core.Bool.{Bool, true, false, cond, _&&_, not}
+use mathlib.Core.Bool.{true, _&&_, not}
 use mathlib.Core.List.{List}
 use mathlib.Core.Logic.{⊎-elim}
 use mathlib.Core.Path.{_≡_, refl, sym, subst}
@@ -8,7 +8,7 @@ use native.Mathlib.Omega.{arith}
 use lib.Dec.{ltb}
 use lib.ListN.{getD, length, replicate}
 use Rattle.laws.proofs.Stores.{store-at}
-use Rattle.laws.proofs.Tests.{eq-or-ne}
+use Rattle.laws.proofs.Tests.{eq-or-ne, either}
 use Rattle.laws.proofs.Turning.{turns-keep}
 use Rattle.sets.specs.Sets.{memberOf, nextAboveOf}
 use Rattle.sets.specs.declared.Found.{Found}
@@ -56,22 +56,18 @@ none zero k = record { gate = omega arith; vector = omega arith }
 none (suc n) zero = record { gate = omega arith; vector = omega arith }
 none (suc n) (suc k) = none n k
 
-either : (b : Bool) (v w : Work) → WorkInRange v → WorkInRange w → WorkInRange (cond b v w)
-either true v w x y = x
-either false v w x y = y
-
 -- what is sent and announced writes no entry
 sent-ranged : (b mask g : ℕ) (m : Message) (w : Work) → WorkInRange w → WorkInRange (sent b mask g m w)
 unfolding sentBelow
 sent-ranged b mask g m w h =
-    turns-keep WorkInRange (sentAt mask m) b w (λ y v below k. either (memberOf mask y) (sentAcross v y m) v k k) h
+    turns-keep WorkInRange (sentAt mask m) b w (λ y v below k. either WorkInRange (memberOf mask y) (sentAcross v y m) v k k) h
 
 moved-ranged : (moves : List ℕ) (gates b : ℕ) (to : Move) (w : Work) → WorkInRange w → WorkInRange (movedTo moves gates b to w)
 unfolding announced
 moved-ranged moves gates b Nowhere w h = h
 moved-ranged moves gates b (To y) w h =
     turns-keep WorkInRange (announcedAt moves gates b y) gates (with w (withMode (atState (w .task) y) Free) (w .ok))
-    (λ g v below k. either (readyOf moves b y g && not (endsReady (upOf (v .task) g))) (sentUp v g Ready) v k k) h
+    (λ g v below k. either WorkInRange (readyOf moves b y g && not (endsReady (upOf (v .task) g))) (sentUp v g Ready) v k k) h
 
 module _ (T : Table) (R : Rules T) (room : length (T .vectors) ≡ 16) (t : ℕ) (here : t < T .tasks) where
   named-ranged : (r : Request) → namesOf T t r ≡ true → InRange r
@@ -94,7 +90,7 @@ module _ (T : Table) (R : Rules T) (room : length (T .vectors) ≡ 16) (t : ℕ)
   unfolding handled
   handled-ranged r w f h =
       let mask : ℕ = maskOf (T .masks) (r .gate .0) (r .vector) in
-      either (readyOf (T .moves) t (w .task .state) (r .gate .0)) _ _
+      either WorkInRange (readyOf (T .moves) t (w .task .state) (r .gate .0)) _ _
       (accepted-ranged r mask (nextAboveOf mask t) w (named-ranged r f) h)
       (sent-ranged t mask (r .gate .0) (Abort (r .gate)) w h)
 
@@ -106,7 +102,7 @@ module _ (T : Table) (R : Rules T) (room : length (T .vectors) ≡ 16) (t : ℕ)
       let r : Request = getD (w .task .waiting) 0 noRequest in
       let v : Work = with w (withoutFront (w .task)) (w .ok) in
       let f = front-names T t n (w .task) k in
-      either (isFree (w .task .mode)) _ w
+      either WorkInRange (isFree (w .task .mode)) _ w
       (list-ranged n (handled (T .moves) (T .gates) t (T .masks) r v)
       (handled-kept T R room t here n r v f (front-kept T t n (w .task) k)) (handled-ranged r v f h)) h
 
@@ -114,7 +110,7 @@ module _ (T : Table) (R : Rules T) (room : length (T .vectors) ≡ 16) (t : ℕ)
     locked-ranged : (r : Request) (m : Mode) → namesOf T t r ≡ true
         → WorkInRange (locked (T .moves) (T .gates) t (T .masks) p r m)
     locked-ranged r Free f = handled-ranged r (begun p) f (none 16)
-    locked-ranged r (Held q) f = either (ltb (p .count) 16) (begun (withLast p r)) (excluded p) (none 16) (none 16)
+    locked-ranged r (Held q) f = either WorkInRange (ltb (p .count) 16) (begun (withLast p r)) (excluded p) (none 16) (none 16)
 
     at-task-ranged : (m : Message) → comes T t m ≡ true → WorkInRange (atTask (T .moves) (T .gates) t (T .masks) p m)
     unfolding atTask
@@ -122,11 +118,11 @@ module _ (T : Table) (R : Rules T) (room : length (T .vectors) ≡ 16) (t : ℕ)
     at-task-ranged (Lock r) f = locked-ranged r (p .mode) f
     at-task-ranged (Commit g) f =
         let to : Move = moveOf (T .moves) t (p .state) (g .0) in
-        either (heldBy (g .0) (p .mode) && readyOf (T .moves) t (p .state) (g .0)) _ (excluded p)
+        either WorkInRange (heldBy (g .0) (p .mode) && readyOf (T .moves) t (p .state) (g .0)) _ (excluded p)
         (list-ranged (p .count) (movedTo (T .moves) (T .gates) t to (begun p))
         (moved-kept T R t here (p .count) to (begun p) (λ y e. move-leads T R t (p .state) (g .0) y e .target) (h .kept))
         (moved-ranged (T .moves) (T .gates) t to (begun p) (none 16))) (none 16)
-    at-task-ranged (Abort g) f = either (heldBy (g .0) (p .mode)) _ (excluded p)
+    at-task-ranged (Abort g) f = either WorkInRange (heldBy (g .0) (p .mode)) _ (excluded p)
         (list-ranged (p .count) (begun (withMode p Free)) (mode-kept T t (p .count) p (h .kept) Free refl) (none 16)) (none 16)
 
 -- n entries written behind the first `at`

@@ -7,7 +7,7 @@ use native.Mathlib.Omega.{arith}
 use lib.Dec.{ltb}
 use lib.ListN.{getD, length, List·getD-eq-default}
 use borrow.Author.Tests.{lt-ltb, ltb-true, eq-eqb, eqb-true}
-use Rattle.laws.proofs.Tests.{and-left, and-true, le-or-lt}
+use Rattle.laws.proofs.Tests.{and-left, and-true, le-or-lt, either}
 use Rattle.sets.specs.Sets.{memberOf, nextAboveOf}
 use Rattle.sets.specs.declared.Found.{Found}
 use Rattle.sets.specs.declared.Found.the-variants as found
@@ -135,18 +135,14 @@ module _ (T : Table) (R : Rules T) (room : length (T .vectors) ≡ 16) (t : ℕ)
         rules-of T t (p .count) _ (handled-kept (p .count) r (begun p) f (h .kept)) (λ z. h .free (ap isFree e))
     locked-kept r (Held q) e f = waits-kept r q e f
 
-    either : (b : Bool) (w : Work) → TaskRules T t (w .task) → TaskRules T t (cond b w (excluded p) .task)
-    either true w k = k
-    either false w k = h
-
     pub at-task-kept : (m : Message) → comes T t m ≡ true
         → TaskRules T t (atTask (T .moves) (T .gates) t (T .masks) p m .task)
     unfolding atTask
     at-task-kept Ready f = h
     at-task-kept (Lock r) f = locked-kept r (p .mode) refl f
-    at-task-kept (Commit g) f = either (heldBy (g .0) (p .mode) && readyOf (T .moves) t (p .state) (g .0)) _
+    at-task-kept (Commit g) f = either (λ (x : Work). TaskRules T t (x .task)) (heldBy (g .0) (p .mode) && readyOf (T .moves) t (p .state) (g .0)) _ (excluded p)
         (list-kept (p .count) (movedTo (T .moves) (T .gates) t (moveOf (T .moves) t (p .state) (g .0)) (begun p))
         (moved-kept T R t here (p .count) (moveOf (T .moves) t (p .state) (g .0)) (begun p) (leads (p .state) (g .0))
-        (h .kept)))
-    at-task-kept (Abort g) f = either (heldBy (g .0) (p .mode)) _
-        (list-kept (p .count) (begun (withMode p Free)) (mode-kept T t (p .count) p (h .kept) Free refl))
+        (h .kept))) h
+    at-task-kept (Abort g) f = either (λ (x : Work). TaskRules T t (x .task)) (heldBy (g .0) (p .mode)) _ (excluded p)
+        (list-kept (p .count) (begun (withMode p Free)) (mode-kept T t (p .count) p (h .kept) Free refl)) h

@@ -1,13 +1,13 @@
 -- What a present task sends keeps its rules: a message that fits, results to lower tasks and the gate, announcements.
 use Prim.Native.Nat.{ℕ, _<_}
-use mathlib.Core.Bool.{Bool, true, false, cond, _&&_, not}
+use mathlib.Core.Bool.{Bool, true, _&&_, not}
 use mathlib.Core.Path.{_≡_, refl, sym, _∙_, subst}
 use native.Mathlib.Omega.{arith}
 use lib.Dec.{ltb}
 use lib.ListN.{getD, length-set}
 use borrow.Author.Tests.{lt-ltb}
 use Rattle.laws.proofs.Stores.{store-at}
-use Rattle.laws.proofs.Tests.{and-true}
+use Rattle.laws.proofs.Tests.{and-true, either}
 use Rattle.laws.proofs.Turning.{turns-keep}
 use Rattle.sets.specs.Sets.{memberOf}
 use Rattle.table.specs.Tables.{readyOf}
@@ -102,23 +102,19 @@ module _ (T : Table) (R : Rules T) (t : ℕ) (here : t < T .tasks) (n : ℕ) whe
       across-kept T t n (w .task) k b (put1 c m)
       (put-one (acrossFit T t b) _ c (k .across b (omega (arith, R .tasks))) both m f)
 
-  either : (b : Bool) (v w : Work) → Kept T t n (v .task) → Kept T t n (w .task) → Kept T t n (cond b v w .task)
-  either true v w x y = x
-  either false v w x y = y
-
   pub sent-kept : (mask g : ℕ) (m : Message) (w : Work) → g < T .gates → ((y : ℕ) → y < t → acrossFit T t y m ≡ true)
       → upFits g m ≡ true
       → Kept T t n (w .task) → Kept T t n (sent t mask g m w .task)
   unfolding sentBelow
   sent-kept mask g m w l a f k = to-gate-kept (sentBelow t mask m w) g m l f
       (turns-keep (λ (v : Work). Kept T t n (v .task)) (sentAt mask m) t w
-      (λ y v below k. either (memberOf mask y) (sentAcross v y m) v (to-task-kept v y m (omega arith) (a y below) k) k) k)
+      (λ y v below k. either (λ (x : Work). Kept T t n (x .task)) (memberOf mask y) (sentAcross v y m) v (to-task-kept v y m (omega arith) (a y below) k) k) k)
 
   pub announced-kept : (w : Work) → Kept T t n (w .task) → Kept T t n (announced (T .moves) (T .gates) t w .task)
   unfolding announced
   announced-kept w = turns-keep (λ (v : Work). Kept T t n (v .task))
       (announcedAt (T .moves) (T .gates) t (w .task .state)) (T .gates) w
-      (λ g v below k. either (readyOf (T .moves) t (w .task .state) g && not (endsReady (upOf (v .task) g)))
+      (λ g v below k. either (λ (x : Work). Kept T t n (x .task)) (readyOf (T .moves) t (w .task .state) g && not (endsReady (upOf (v .task) g)))
       (sentUp v g Ready) v (to-gate-kept v g Ready below refl k) k)
 
   -- at another of its states

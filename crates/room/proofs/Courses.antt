@@ -1,10 +1,11 @@
 -- What holds along the deliveries of a schedule, from Fresh on.
 use Prim.Native.Nat.{ℕ}
-use mathlib.Core.Bool.{Bool, true, false, cond}
+use mathlib.Core.Bool.{true}
 use mathlib.Core.List.{List}
 use mathlib.Core.Path.{_≡_, refl, _∙_}
 use native.Mathlib.Omega.{arith}
 use lib.ListN.{length}
+use Rattle.laws.proofs.Tests.{either}
 use Rattle.answers.specs.Answers.{isDone}
 use Rattle.laws.proofs.Turning.{turns-keep}
 use Rattle.table.specs.declared.Table.{Table}
@@ -27,10 +28,6 @@ module _ (T : Table) (log : List ℕ) where
     pub is-long : length (c .log) ≡ length log
     pub in-range : LogInRange (c .state .logged) (c .log)
 
-  either : (t : Bool) (x y : Course) → Good x → Good y → Good (cond t x y)
-  either true x y p q = p
-  either false x y p q = q
-
   module _ (room : length (T .vectors) ≡ 16) where
     gone-good : (c : Course) (d : Delivery) → Good c → Good (gone c (deliveredBy T (c .state) (c .log) d))
     gone-good c d h = record {
@@ -44,7 +41,7 @@ module _ (T : Table) (log : List ℕ) where
         → Good (course (deliveredBy T) file count (courseBegun (fresh T .state) log))
     unfolding course fresh
     course-good h file count = rw h (turns-keep Good (turnAt (deliveredBy T) file) count (courseBegun (freshState T) log)
-        (λ i c below g. either (isDone (c .answer)) (gone c (deliveredBy T (c .state) (c .log) (deliveryOf file i))) c
+        (λ i c below g. either Good (isDone (c .answer)) (gone c (deliveredBy T (c .state) (c .log) (deliveryOf file i))) c
         (gone-good c (deliveryOf file i) g) g)
         (record {
           is-sound = fresh-all-sound T h log;

@@ -1,9 +1,10 @@
 -- In a row of deliveries number 11 need be asked only once, before the first.
 use Prim.Native.Nat.{ℕ}
-use mathlib.Core.Bool.{Bool, true, false, cond}
+use mathlib.Core.Bool.{true}
 use mathlib.Core.List.{List}
 use mathlib.Core.Path.{_≡_}
 use lib.ListN.{length}
+use Rattle.laws.proofs.Tests.{either}
 use Rattle.answers.specs.Answers.{isDone}
 use Rattle.delivery.specs.Delivery.{sound, delivered}
 use Rattle.kept.proofs.Kept.{outcome-sound, outcome-sized}
@@ -21,14 +22,10 @@ module _ (T : Table) (room : length (T .vectors) ≡ 16) where
     is-sound : sound T (c .state) (c .log) ≡ true
     is-sized : SizedState (c .state)
 
-  either : (t : Bool) (x y : Course) → Good x → Good y → Good (cond t x y)
-  either true x y p q = p
-  either false x y p q = q
-
   turn-good : (file : List ℕ) (i : ℕ) (c : Course) → Good c → Good (turnAt (deliveredBy T) file i c)
   turn-good file i c h =
       let d : Delivery = deliveryOf file i in
-      either (isDone (c .answer)) (gone c (deliveredBy T (c .state) (c .log) d)) c
+      either Good (isDone (c .answer)) (gone c (deliveredBy T (c .state) (c .log) d)) c
       (record {
         is-sound = outcome-sound T (c .state) (c .log) (d .from) (d .to) room (h .is-sized) (h .is-sound);
         is-sized = outcome-sized T (c .state) (c .log) (d .from) (d .to) room (h .is-sized);

@@ -4,6 +4,7 @@ use mathlib.Core.Bool.{Bool, true, false, cond, _&&_, not}
 use mathlib.Core.List.{List}
 use mathlib.Core.Path.{_≡_, refl, _∙_}
 use native.Mathlib.Omega.{arith}
+use Rattle.laws.proofs.Tests.{either}
 use Rattle.laws.specs.Turns.{upTo}
 use Rattle.sets.specs.Sets.{memberOf, nextAboveOf}
 use Rattle.sets.specs.declared.Found.{Found}
@@ -23,21 +24,17 @@ turns-fired : (f : ℕ → Work → Work) → ((n : ℕ) (w : Work) → f n w .f
 turns-fired f h zero w = refl
 turns-fired f h (suc n) w = h n (upTo f n w) ∙ turns-fired f h n w
 
-either-fired : (t : Bool) (v w : Work) → v .fired ≡ w .fired → cond t v w .fired ≡ w .fired
-either-fired true v w e = e
-either-fired false v w e = refl
-
 pub sent-fired : (b mask g : ℕ) (m : Message) (w : Work) → sent b mask g m w .fired ≡ w .fired
 unfolding sentBelow
 sent-fired b mask g m w =
-    turns-fired (sentAt mask m) (λ (y : ℕ) (v : Work). either-fired (memberOf mask y) (sentAcross v y m) v refl) b w
+    turns-fired (sentAt mask m) (λ (y : ℕ) (v : Work). either (λ (x : Work). x .fired ≡ v .fired) (memberOf mask y) (sentAcross v y m) v refl refl) b w
 
 module _ (moves : List ℕ) (gates b : ℕ) where
   pub announced-fired : (w : Work) → announced moves gates b w .fired ≡ w .fired
   unfolding announced
   announced-fired w =
       turns-fired (announcedAt moves gates b (w .task .state))
-      (λ (g : ℕ) (v : Work). either-fired (readyOf moves b (w .task .state) g && not (endsReady (upOf (v .task) g))) _ v refl) gates w
+      (λ (g : ℕ) (v : Work). either (λ (x : Work). x .fired ≡ v .fired) (readyOf moves b (w .task .state) g && not (endsReady (upOf (v .task) g))) _ v refl refl) gates w
 
   pub moved-fired : (to : Move) (w : Work) → movedTo moves gates b to w .fired ≡ w .fired
   moved-fired Nowhere w = refl
