@@ -20,7 +20,8 @@ use Rattle.table.specs.Tables.{maskOf, newBelow, withMasks}
 use Rattle.table.specs.declared.Table.{Table}
 use Rattle.soundness.specs.Sound.{vectorFits}
 use Rattle.soundness.proofs.Rules.{count-le}
-use Rattle.reader.specs.Rules.{loading, inRange, isNinth, inOrder, withRecord, afterRecord}
+use Rattle.reader.specs.Parts.{loading}
+use Rattle.reader.specs.Rules.{inRange, isNinth, inOrder, withRecord, afterRecord}
 use Rattle.reader.specs.declared.Progress.{Progress}
 use Rattle.accepted.proofs.Passed.{Fields}
 use Rattle.accepted.proofs.Reached.{Reached, CountsFit, MasksFit, system-le}

@@ -15,7 +15,8 @@ use Rattle.table.specs.Tables.{cellOf, withMoves}
 use Rattle.table.specs.declared.Table.{Table}
 use Rattle.soundness.specs.Sound.{mostAt}
 use Rattle.soundness.proofs.Rules.{states-le}
-use Rattle.reader.specs.Rules.{loading, inRange, inOrder, withRecord, afterRecord}
+use Rattle.reader.specs.Parts.{loading}
+use Rattle.reader.specs.Rules.{inRange, inOrder, withRecord, afterRecord}
 use Rattle.reader.specs.declared.Progress.{Progress}
 use Rattle.accepted.proofs.Passed.{Fields}
 use Rattle.accepted.proofs.Reached.{Reached, MovesFit, system-le}

@@ -17,7 +17,8 @@ use Rattle.format.proofs.Walks.{step-more, step-refused}
 use Rattle.laws.proofs.Tests.{true-or-false}
 use Rattle.records.specs.Records.{recordAt}
 use Rattle.table.specs.Tables.{emptyTable}
-use Rattle.reader.specs.Rules.{Loading, loading, kindFault, noneCame}
+use Rattle.reader.specs.Parts.{loading, noneCame}
+use Rattle.reader.specs.Rules.{Loading, kindFault}
 use Rattle.reader.specs.Reader.{faultAt, withRecordAt, refusedOf, endedOf, readOf}
 use Rattle.accepted.proofs.Reached.{furthest}
 use Rattle.accepted.proofs.Records.{Held, keeps}

@@ -7,9 +7,10 @@ use lib.Dec.{ltb}
 use lib.ListN.{getD, length}
 use Rattle.table.specs.Tables.{countIn, cellOf, emptyTable}
 use Rattle.table.specs.declared.Table.{Table}
-use Rattle.soundness.specs.Sound.{taskFits, mostAt, vectorFits}
+use Rattle.soundness.specs.Parts.{taskFits}
+use Rattle.soundness.specs.Sound.{mostAt, vectorFits}
 use Rattle.soundness.proofs.Rules.{count-le}
-use Rattle.reader.specs.Rules.{noneCame}
+use Rattle.reader.specs.Parts.{noneCame}
 use Rattle.reader.specs.declared.Progress.{Progress}
 
 -- the table's lists have the lengths of its arrays

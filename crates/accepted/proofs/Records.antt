@@ -13,7 +13,8 @@ use Rattle.records.specs.declared.Record.{Record}
 use Rattle.records.specs.declared.Record.the-variants.{System, Task, Transition, Vector}
 use Rattle.table.specs.Tables.{emptyTable}
 use Rattle.table.specs.declared.Table.{Table}
-use Rattle.reader.specs.Rules.{Loading, loading, allowedKind, noneCame, withRecord, afterRecord}
+use Rattle.reader.specs.Parts.{loading, noneCame}
+use Rattle.reader.specs.Rules.{Loading, allowedKind, withRecord, afterRecord}
 use Rattle.reader.specs.Reader.{faultAt, withRecordAt, refusedOf, endedOf, readOf}
 use Rattle.reader.specs.declared.Progress.{Progress}
 use Rattle.accepted.proofs.Passed.{Fields, Passes, kindOf, passes}

@@ -15,7 +15,8 @@ use Rattle.records.specs.declared.Record.the-variants.{System, Task}
 use Rattle.table.specs.Tables.{countIn, cellOf, maskOf, emptyTable, withCounts, withStates}
 use Rattle.table.specs.declared.Table.{Table}
 use Rattle.soundness.proofs.Rules.{count-most}
-use Rattle.reader.specs.Rules.{loading, allowedKind, noneCame, inRange, inOrder, withRecord, afterRecord}
+use Rattle.reader.specs.Parts.{loading, noneCame}
+use Rattle.reader.specs.Rules.{allowedKind, inRange, inOrder, withRecord, afterRecord}
 use Rattle.reader.specs.declared.Progress.{Progress}
 use Rattle.accepted.proofs.Passed.{Fields}
 use Rattle.accepted.proofs.Reached.{Reached, Sized, TasksFit, MovesFit, systemBytes, system-le}

@@ -118,13 +118,9 @@ unfoldable pub soundFor : Table → State → ℕ → Bool
 soundFor T s n =
     soundTable T && (soundState (T .vectors) (T .masks) (T .tasks) (T .gates) (T .states) s && leb (s .logged) (n / 2))
 
-module _ (T : Table) (s : State) (log : List ℕ) where
-  abbrev pub sound : Bool
-  sound = soundFor T s (length log)
-
-  -- "Order for a delivery: 11, 8, 9, 12, 10."
-  unfoldable pub delivered : ℕ → ℕ → Outcome
-  delivered from to =
-      cond (not sound) (refused s log Unsound)
-      (between (T .moves) (T .masks) (T .gates) s log (T .vectors)
-      (endpointOf (T .tasks) (T .gates) from) (endpointOf (T .tasks) (T .gates) to))
+-- "Order for a delivery: 11, 8, 9, 12, 10."
+unfoldable pub delivered : Table → State → List ℕ → ℕ → ℕ → Outcome
+delivered T s log from to =
+    cond (not (soundFor T s (length log))) (refused s log Unsound)
+    (between (T .moves) (T .masks) (T .gates) s log (T .vectors)
+    (endpointOf (T .tasks) (T .gates) from) (endpointOf (T .tasks) (T .gates) to))

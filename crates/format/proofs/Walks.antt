@@ -12,7 +12,7 @@ use Rattle.answers.specs.Answers.{isDone}
 use Rattle.answers.specs.declared.Answer.{Answer}
 use Rattle.laws.proofs.Tests.{le-or-lt, true-or-false}
 use Rattle.format.specs.Format.{sizeAt}
-use Rattle.format.specs.Walk.{walk, walkAll}
+use Rattle.format.specs.Walk.{walk}
 
 module _ {A R : Type 0} (file : List ℕ) (fault : ℕ → A → Answer) (more : ℕ → A → A) (refused : Answer → ℕ → R) (ended : A → R) where
   pub step-more : (n at : ℕ) (l : A) → at < length file → isDone (fault at l) ≡ true
@@ -36,7 +36,7 @@ module _ {A R : Type 0} (file : List ℕ) (fault : ℕ → A → Answer) (more :
     within : turns ≤ at
     rest : walk file fault more refused ended (length file - turns) at l ≡ whole
 
-  pub comes-first : (l : A) → Comes 0 l (walkAll file fault more refused ended l)
+  pub comes-first : (l : A) → Comes 0 l (walk file fault more refused ended (length file) 0 l)
   comes-first l = record { turns = 0; within = omega arith; rest = rw sub-zero }
 
   module _ {at : ℕ} {l : A} {whole : R} (c : Comes at l whole) where
@@ -92,5 +92,5 @@ module _ {A R : Type 0} (file : List ℕ) (fault : ℕ → A → Answer) (more :
           (true-or-false (isDone (fault at l))))
           (le-or-lt (length file) at)
 
-      pub all-ends : (l : A) → Held 0 l → Ended (walkAll file fault more refused ended l) ⊎ Refused (walkAll file fault more refused ended l)
+      pub all-ends : (l : A) → Held 0 l → Ended (walk file fault more refused ended (length file) 0 l) ⊎ Refused (walk file fault more refused ended (length file) 0 l)
       all-ends l g = walk-ends (length file) 0 l g (omega arith)

@@ -6,7 +6,8 @@ use state::Task;
 use table::Table;
 use tasks::Outgoing;
 ghost use mathlib.Core.Path.{_≡_};
-ghost use Rattle.fresh.specs.Fresh.{started, fresh};
+ghost use Rattle.fresh.specs.Fresh.{fresh};
+ghost use Rattle.fresh.specs.Parts.{started};
 
 pub struct Started {
     pub state: State,

@@ -31,14 +31,6 @@ abbrev pub sentDown : Gate → Found → Message → Work
 sentDown k Nobody m = allowed k
 sentDown k (Task b) m = let put = putDown k (b .0) m in record { gate = put .gate; ok = put .room }
 
--- the offers after a result by task t where the dealt vector has the mask: COMMIT, "t leaves the offers, and the dealt
--- vector's tasks aren't put back"; ABORT, "the dealt vector's tasks rejoin the offers, then t leaves them"
-abbrev pub afterCommit : ℕ → ℕ → ℕ → ℕ
-afterCommit t offers mask = withoutOf offers t
-
-abbrev pub afterAbort : ℕ → ℕ → ℕ → ℕ
-afterAbort t offers mask = withoutOf (unionOf offers mask) t
-
 -- The masks, how many vectors the gate has, and its own number.
 module _ (masks : List ℕ) (vectors g : ℕ) where
   -- "the lowest numbered vector whose tasks are all in the offers"; vectors where there is none
@@ -59,16 +51,17 @@ module _ (masks : List ℕ) (vectors g : ℕ) where
   unfoldable pub searched : Gate → Work
   searched k = searchedBy k (k .deal)
 
-  -- a result by task t: the gate becomes Idle with the offers after it, and searches; excluded from a task outside the
-  -- dealt vector, and at an Idle gate
+  -- a result by task t: the gate becomes Idle with the offers after it, which it has by its offers and the mask of the
+  -- dealt vector, and searches; excluded from a task outside the dealt vector, and at an Idle gate
   abbrev pub ended : ℕ → (ℕ → ℕ → ℕ) → Gate → Deal → Work
   ended t after k Idle = excluded k
   ended t after k (Dealing v) =
       cond (memberOf (maskOf masks g v) t) (searched (offering k (after (k .offers) (maskOf masks g v)) Idle)) (excluded k)
 
-  -- "READY: t joins the offers."
+  -- "READY: t joins the offers." COMMIT: "t leaves the offers, and the dealt vector's tasks aren't put back." ABORT: "the
+  -- dealt vector's tasks rejoin the offers, then t leaves them"
   unfoldable pub atGate : ℕ → Gate → Message → Work
   atGate t k Ready = searched (offering k (withOf (k .offers) t) (k .deal))
   atGate t k (Lock r) = excluded k
-  atGate t k (Commit h) = ended t (afterCommit t) k (k .deal)
-  atGate t k (Abort h) = ended t (afterAbort t) k (k .deal)
+  atGate t k (Commit h) = ended t (λ (offers mask : ℕ). withoutOf offers t) k (k .deal)
+  atGate t k (Abort h) = ended t (λ (offers mask : ℕ). withoutOf (unionOf offers mask) t) k (k .deal)

@@ -11,7 +11,7 @@ use lib.Pow.{pow-lt}
 use borrow.Author.Tests.{lt-ltb, ltb-true, eq-eqb, eqb-true}
 use Rattle.laws.proofs.Stores.{store-at}
 use Rattle.laws.proofs.Tests.{and-true}
-use Rattle.sets.specs.Sets.{memberOf, allBelowOf, unionOf, minusOf, aloneOf, withOf, lowestOf}
+use Rattle.sets.specs.Sets.{memberOf, allBelowOf, unionOf, minusOf, aloneOf, withOf, withoutOf, lowestOf}
 use Rattle.sets.specs.declared.Found.{Found}
 use Rattle.sets.specs.declared.Found.the-variants.{Nobody, Task}
 use Rattle.sets.proofs.Members.{below-power, member-below}
@@ -29,7 +29,7 @@ use Rattle.state.specs.declared.Deal.the-variants.{Idle, Dealing}
 use Rattle.state.specs.declared.Gate.{Gate}
 use Rattle.sound_state.specs.SoundState.{dealSound}
 use Rattle.sound_state.specs.Parts.{room}
-use Rattle.gates.specs.Gates.{allowed, excluded, offering, sentDown, afterCommit, afterAbort, fitting, dealt, searchedBy, searched, ended, atGate}
+use Rattle.gates.specs.Gates.{allowed, excluded, offering, sentDown, fitting, dealt, searchedBy, searched, ended, atGate}
 use Rattle.kept.proofs.Channels.{put-one}
 use Rattle.kept.proofs.Rules.{GateRules, downFit, downRule}
 
@@ -136,7 +136,7 @@ module _ (T : Table) (R : Rules T) (g : ℕ) (here : g < T .gates) where
       (or-lt (T .tasks) (k .offers) (aloneOf t) (small k r) (alone-below (T .tasks) t l (R .tasks))) (r .deal) r)
   at-gate-kept t k (Lock q) l r = r
   at-gate-kept t k (Commit h) l r =
-      ended-kept t (afterCommit t) k (k .deal) refl (λ a m x y. minus-below (T .tasks) a (aloneOf t) x) r
+      ended-kept t (λ (a m : ℕ). withoutOf a t) k (k .deal) refl (λ a m x y. minus-below (T .tasks) a (aloneOf t) x) r
   at-gate-kept t k (Abort h) l r =
-      ended-kept t (afterAbort t) k (k .deal) refl
+      ended-kept t (λ (a m : ℕ). withoutOf (unionOf a m) t) k (k .deal) refl
       (λ a m x y. minus-below (T .tasks) (unionOf a m) (aloneOf t) (or-lt (T .tasks) a m x y)) r

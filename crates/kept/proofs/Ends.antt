@@ -12,7 +12,7 @@ use Rattle.answers.specs.declared.Answer.the-variants.{Done, NoChannel, Channel
 use Rattle.channels.specs.Channels.{empty1, popped3}
 use Rattle.channels.specs.declared.Message.{Message}
 use Rattle.delivery.proofs.Ways.{way-within}
-use Rattle.delivery.specs.Delivery.{Outcome, withLog, refused, written, settledAtTask, settledAtGate, wayOf, frontAtGate, deliveredAtGate, frontAtTask, deliveredAtTask, along, wayTaken, between, sound, delivered}
+use Rattle.delivery.specs.Delivery.{Outcome, withLog, refused, written, settledAtTask, settledAtGate, wayOf, frontAtGate, deliveredAtGate, frontAtTask, deliveredAtTask, along, wayTaken, between, soundFor, delivered}
 use Rattle.delivery.specs.Within.{EndWithin, LinkWithin, WayWithin}
 use Rattle.delivery.specs.declared.Way.{Way}
 use Rattle.delivery.specs.declared.Way.the-variants.{Nowhere, Along}
@@ -20,7 +20,8 @@ use Rattle.gates.specs.Gates.{atGate}
 use Rattle.gates.specs.declared.Work as gate
 use Rattle.numbers.specs.Endpoints.{endpointOf}
 use Rattle.numbers.specs.declared.Endpoint.the-variants.{Nobody, Task, Gate}
-use Rattle.state.specs.States.{taskOf, gateOf, upOf, acrossOf, downOf, withTask, withGate, withLogged, withUp, withAcross, withDown, frontOf}
+use Rattle.state.specs.States.{taskOf, gateOf, upOf, acrossOf, downOf, withTask, withGate, withLogged, withDown, frontOf}
+use Rattle.state.specs.Parts.{withUp, withAcross}
 use Rattle.state.specs.declared.Front.the-variants.{Nothing, Oldest}
 use Rattle.state.specs.declared.Link.{Link}
 use Rattle.state.specs.declared.Link.the-variants.{ToGate, FromGate, ToTask}
@@ -67,12 +68,12 @@ HasRoom s log w = w .fired ≤ length log / 2 - s .logged
 
 pub data Ends (T : Table) (s : State) (log : List ℕ) : Outcome → Type 0 where
   refuses : (a : Answer) → isDone a ≡ false → Ends T s log (refused s log a)
-  to-gate : (t g : ℕ) → sound T s log ≡ true → t < T .tasks → g < T .gates
+  to-gate : (t g : ℕ) → soundFor T s (length log) ≡ true → t < T .tasks → g < T .gates
       → Ends T s log (doneAtGate (upPopped s t g) log g (upWork T s t g))
-  to-task : (a b : ℕ) → sound T s log ≡ true → a < T .tasks → b < T .tasks → (acrossOf (taskOf s a) b .count ≡ 0 → ⊥)
+  to-task : (a b : ℕ) → soundFor T s (length log) ≡ true → a < T .tasks → b < T .tasks → (acrossOf (taskOf s a) b .count ≡ 0 → ⊥)
       → HasRoom s log (acrossWork T s a b)
       → Ends T s log (doneAtTask s (acrossPopped s a b) log b (acrossWork T s a b))
-  from-gate : (g b : ℕ) → sound T s log ≡ true → g < T .gates → b < T .tasks → (downOf (gateOf s g) b .count ≡ 0 → ⊥)
+  from-gate : (g b : ℕ) → soundFor T s (length log) ≡ true → g < T .gates → b < T .tasks → (downOf (gateOf s g) b .count ≡ 0 → ⊥)
       → HasRoom s log (downWork T s g b) → Ends T s log (doneAtTask s (downPopped s g b) log b (downWork T s g b))
 
 -- who stands at an endpoint is present
@@ -88,7 +89,7 @@ present T e = turn (ltb e 16) (ltb e (T .tasks)) (ltb e 32) (ltb (e - 16) (T .ga
     turn false b true false p q = tt
     turn false b false d p q = tt
 
-module _ (T : Table) (s : State) (log : List ℕ) (h : sound T s log ≡ true) where
+module _ (T : Table) (s : State) (log : List ℕ) (h : soundFor T s (length log) ≡ true) where
   -- work that is settled, and a channel that may be empty
   at-gate-ends : (popped : State) (g : ℕ) (w : gate.Work) → Ends T s log (doneAtGate popped log g w)
       → Ends T s log (withLog log (settledAtGate s popped g w))
@@ -148,9 +149,9 @@ module _ (T : Table) (s : State) (log : List ℕ) (h : sound T s log ≡ true) w
 
 pub ends : (T : Table) (s : State) (log : List ℕ) (from to : ℕ) → Ends T s log (delivered T s log from to)
 unfolding delivered between
-ends T s log from to = turn (sound T s log) refl
+ends T s log from to = turn (soundFor T s (length log)) refl
   where
-    turn : (b : Bool) → sound T s log ≡ b
+    turn : (b : Bool) → soundFor T s (length log) ≡ b
         → Ends T s log (cond (not b) (refused s log Unsound)
         (between (T .moves) (T .masks) (T .gates) s log (T .vectors) (endpointOf (T .tasks) (T .gates) from) (endpointOf (T .tasks) (T .gates) to)))
     turn true h = way-ends T s log h (wayOf (endpointOf (T .tasks) (T .gates) from) (endpointOf (T .tasks) (T .gates) to))

@@ -29,7 +29,7 @@ use Rattle.state.specs.declared.State.{State}
 use Rattle.state.specs.declared.Task.{Task}
 use Rattle.tasks.specs.Tasks.{with, begun, excluded, sentUp, sentAcross, entered, isFree, heldBy, sentAt, sentBelow, sent, announcedAt, announced, movedTo, accepted, handled, listHandled, locked, atTask}
 use Rattle.tasks.specs.declared.Work.{Work}
-use Rattle.delivery.specs.Delivery.{Outcome, sound, written, delivered}
+use Rattle.delivery.specs.Delivery.{Outcome, soundFor, written, delivered}
 use Rattle.delivery.specs.Delivery as delivery
 use Rattle.kept.proofs.Rules.{Kept, TaskRules, namesOf, comes}
 use Rattle.kept.proofs.Sends.{mode-kept, moved-kept}
@@ -144,7 +144,7 @@ module _ (at : ℕ) (w : Work) (log : List ℕ) (f : WorkInRange w) (h : LogInRa
 module _ (T : Table) (room : length (T .vectors) ≡ 16) (s : State) (log : List ℕ) (z : SizedState s)
     (h : LogInRange (s .logged) log) where
   -- work at task b, for which there is room
-  at-task : (b : ℕ) (m : Message) → sound T s log ≡ true → b < T .tasks → comes T b m ≡ true
+  at-task : (b : ℕ) (m : Message) → soundFor T s (length log) ≡ true → b < T .tasks → comes T b m ≡ true
       → HasRoom s log (atTask (T .moves) (T .gates) b (T .masks) (taskOf s b) m)
       → (let w = atTask (T .moves) (T .gates) b (T .masks) (taskOf s b) m in
       LogInRange (s .logged + w .fired) (written (s .logged) (w .entries) (w .fired) log))

@@ -7,7 +7,7 @@ use mathlib.Core.Path.{_≡_, refl, sym, subst}
 use native.Mathlib.Nat.{div-eq-of-lt}
 use native.Mathlib.Omega.{arith}
 use lib.Dec.{ltb}
-use lib.ListN.{getD, getD-replicate}
+use lib.ListN.{getD, getD-replicate, length}
 use lib.Pow.{pow-pos}
 use borrow.Author.Tests.{lt-ltb, le-ltb, eq-eqb}
 use Rattle.laws.proofs.Stores.{store-at}
@@ -24,10 +24,9 @@ use Rattle.state.specs.States.{emptyTask, emptyGate, emptyState, noTask, noGate
 use Rattle.state.specs.declared.Task.{Task}
 use Rattle.state.specs.declared.Gate.{Gate}
 use Rattle.state.specs.declared.State.{State}
-use Rattle.sound_state.specs.SoundState.{waitingSound}
-use Rattle.sound_state.specs.Parts.{room, stateSound}
+use Rattle.sound_state.specs.Parts.{room, stateSound, waitingSound}
 use Rattle.tasks.specs.Tasks.{begun, announced}
-use Rattle.delivery.specs.Delivery.{sound}
+use Rattle.delivery.specs.Delivery.{soundFor}
 use Rattle.fresh.specs.Fresh.{startedAt, freshState}
 use Rattle.kept.proofs.Channels.{empty-one, empty-up}
 use Rattle.kept.proofs.Rules.{Kept, TaskRules, GateRules, upRule, acrossFit, acrossRule, downFit, downRule, rules-of}
@@ -117,7 +116,7 @@ module _ (T : Table) (h : soundTable T ≡ true) where
   fresh-sized = state-sized T (freshState T) (started .rules)
 
   -- with any log
-  pub fresh-all-sound : (log : List ℕ) → sound T (freshState T) log ≡ true
+  pub fresh-all-sound : (log : List ℕ) → soundFor T (freshState T) (length log) ≡ true
   fresh-all-sound log = sound-is T (freshState T) log record {
     table = h;
     state = fresh-sound;

@@ -26,7 +26,8 @@ use Rattle.state.specs.declared.Mode.{Mode}
 use Rattle.state.specs.declared.Mode.the-variants.{Free, Held}
 use Rattle.state.specs.declared.Task.{Task}
 use Rattle.sound_state.specs.SoundState.{isSomebody, upFits}
-use Rattle.tasks.specs.Tasks.{with, begun, excluded, entered, sent, isFree, heldBy, waits, accepted, movedTo, handled, listHandled, locked, atTask}
+use Rattle.tasks.specs.Parts.{waits}
+use Rattle.tasks.specs.Tasks.{with, begun, excluded, entered, sent, isFree, heldBy, accepted, movedTo, handled, listHandled, locked, atTask}
 use Rattle.tasks.specs.declared.Work.{Work}
 use Rattle.kept.proofs.Rules.{Kept, TaskRules, namesOf, acrossFit, comes, rules-of}
 use Rattle.kept.proofs.Sends.{to-task-kept, sent-kept, mode-kept, moved-kept}

@@ -15,12 +15,13 @@ use Rattle.channels.specs.Channels.{empty1, popped3}
 use Rattle.channels.specs.declared.Message.{Message}
 use Rattle.channels.specs.declared.Channel1.{Channel1}
 use Rattle.channels.specs.declared.Channel3.{Channel3}
-use Rattle.state.specs.States.{taskOf, gateOf, upOf, acrossOf, downOf, withUp, withAcross, withDown, withTask, withGate, withLogged}
+use Rattle.state.specs.States.{taskOf, gateOf, upOf, acrossOf, downOf, withDown, withTask, withGate, withLogged}
+use Rattle.state.specs.Parts.{withUp, withAcross}
 use Rattle.state.specs.declared.Task.{Task}
 use Rattle.state.specs.declared.State.{State}
 use Rattle.tasks.specs.Tasks.{atTask}
 use Rattle.gates.specs.Gates.{atGate}
-use Rattle.delivery.specs.Delivery.{Outcome, sound, delivered}
+use Rattle.delivery.specs.Delivery.{Outcome, soundFor, delivered}
 use Rattle.kept.proofs.Channels.{pop-up, one-fits, empty-one}
 use Rattle.kept.proofs.Rules.{TaskRules, acrossFit, downFit, comes, across-comes, down-comes}
 use Rattle.kept.proofs.Sends.{up-kept, across-kept, with-gate}
@@ -93,7 +94,7 @@ module _ (T : Table) (R : Rules T) (s : State) (r : StateRules T s) where
 
 -- the state that a delivery ends with
 module _ (T : Table) (room : length (T .vectors) ≡ 16) (s : State) (log : List ℕ) (z : SizedState s) where
-  abbrev before : sound T s log ≡ true → StateRules T s
+  abbrev before : soundFor T s (length log) ≡ true → StateRules T s
   before h = state-rules T s z (sound-says T s log h .state)
 
   after : (o : Outcome) → Ends T s log o → isDone (o .answer) ≡ true → StateRules T (o .state)
@@ -117,9 +118,9 @@ module _ (T : Table) (s : State) (log : List ℕ) (from to : ℕ) where
   abbrev outcome : Outcome
   outcome = delivered T s log from to
 
-  pub delivery-keeps-sound : length (T .vectors) ≡ 16 → SizedState s → sound T s log ≡ true
+  pub delivery-keeps-sound : length (T .vectors) ≡ 16 → SizedState s → soundFor T s (length log) ≡ true
       → isDone (delivered T s log from to .answer) ≡ true
-      → sound T (delivered T s log from to .state) (delivered T s log from to .log) ≡ true
+      → soundFor T (delivered T s log from to .state) (length (delivered T s log from to .log)) ≡ true
   delivery-keeps-sound room z h d =
       let b = log-behind T s log from to d in
       sound-is T (outcome .state) (outcome .log) record {
@@ -129,14 +130,14 @@ module _ (T : Table) (s : State) (log : List ℕ) (from to : ℕ) where
       }
 
   -- whatever the answer
-  pub outcome-sound : length (T .vectors) ≡ 16 → SizedState s → sound T s log ≡ true
-      → sound T (delivered T s log from to .state) (delivered T s log from to .log) ≡ true
+  pub outcome-sound : length (T .vectors) ≡ 16 → SizedState s → soundFor T s (length log) ≡ true
+      → soundFor T (delivered T s log from to .state) (length (delivered T s log from to .log)) ≡ true
   outcome-sound room z h = ⊎-elim
       (λ (d : isDone (outcome .answer) ≡ true). delivery-keeps-sound room z h d)
       (λ (d : isDone (outcome .answer) ≡ false).
       let e = refused-changes-nothing T s log from to d in
-      subst (λ (l : List ℕ). sound T (outcome .state) l ≡ true) (sym (e .1))
-      (subst (λ (x : State). sound T x log ≡ true) (sym (e .0)) h))
+      subst (λ (l : List ℕ). soundFor T (outcome .state) (length l) ≡ true) (sym (e .1))
+      (subst (λ (x : State). soundFor T x (length log) ≡ true) (sym (e .0)) h))
       (true-or-false (isDone (outcome .answer)))
 
   pub outcome-sized : length (T .vectors) ≡ 16 → SizedState s → SizedState (delivered T s log from to .state)

@@ -22,8 +22,8 @@ use Rattle.state.specs.declared.Mode.the-variants.{Free, Held}
 use Rattle.state.specs.declared.Task.{Task}
 use Rattle.state.specs.declared.Gate.{Gate}
 use Rattle.tasks.specs.Tasks.{isFree}
-use Rattle.sound_state.specs.SoundState.{isSomebody, upSound, dealSound, names, modeSound, waitingSound, acrossFits, downFits, taskSound, gateSound}
-use Rattle.sound_state.specs.Parts.{oneSound, stateSound, room, upsSound, waitingsSound, acrossesSound, downsSound}
+use Rattle.sound_state.specs.SoundState.{isSomebody, upSound, dealSound, names, modeSound, acrossFits, downFits, taskSound, gateSound}
+use Rattle.sound_state.specs.Parts.{oneSound, stateSound, room, upsSound, waitingsSound, acrossesSound, downsSound, waitingSound}
 
 -- the lists of a task and of a gate have the lengths of their arrays
 pub record SizedTask (p : Task) : Type 0 where

@@ -20,7 +20,8 @@ use Rattle.channels.specs.declared.Message.{Message}
 use Rattle.channels.specs.declared.Message.the-variants.{Ready}
 use Rattle.channels.specs.declared.Channel1.{Channel1}
 use Rattle.channels.specs.declared.Channel3.{Channel3}
-use Rattle.state.specs.States.{upOf, acrossOf, atState, withMode, withUp, withAcross}
+use Rattle.state.specs.States.{upOf, acrossOf, atState, withMode}
+use Rattle.state.specs.Parts.{withUp, withAcross}
 use Rattle.state.specs.declared.Mode.{Mode}
 use Rattle.state.specs.declared.Mode.the-variants.{Free}
 use Rattle.state.specs.declared.Task.{Task}

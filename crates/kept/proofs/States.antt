@@ -17,7 +17,7 @@ use Rattle.state.specs.declared.Task.{Task}
 use Rattle.state.specs.declared.Gate.{Gate}
 use Rattle.state.specs.declared.State.{State}
 use Rattle.sound_state.specs.SoundState.{taskSound, gateSound, soundState}
-use Rattle.delivery.specs.Delivery.{soundFor, sound}
+use Rattle.delivery.specs.Delivery.{soundFor}
 use Rattle.kept.proofs.Rules.{SizedTask, SizedGate, TaskRules, GateRules, task-rules, task-sound, gate-rules, gate-sound}
 
 -- the state's lists have the lengths of its arrays
@@ -91,7 +91,7 @@ pub record Sound (T : Table) (s : State) (log : List ℕ) : Type 0 where
   pub state : soundIn T s ≡ true
   pub logged : s .logged ≤ length log / 2
 
-pub sound-says : (T : Table) (s : State) (log : List ℕ) → sound T s log ≡ true → Sound T s log
+pub sound-says : (T : Table) (s : State) (log : List ℕ) → soundFor T s (length log) ≡ true → Sound T s log
 unfolding soundFor
 sound-says T s log h =
     let k : (soundIn T s && leb (s .logged) (length log / 2)) ≡ true = and-right (soundTable T) _ h in
@@ -101,6 +101,6 @@ sound-says T s log h =
       logged = leb-true (s .logged) (length log / 2) (and-right (soundIn T s) _ k);
     }
 
-pub sound-is : (T : Table) (s : State) (log : List ℕ) → Sound T s log → sound T s log ≡ true
+pub sound-is : (T : Table) (s : State) (log : List ℕ) → Sound T s log → soundFor T s (length log) ≡ true
 unfolding soundFor
 sound-is T s log h = and-true _ _ (h .table) (and-true _ _ (h .state) (le-leb (s .logged) (length log / 2) (h .logged)))

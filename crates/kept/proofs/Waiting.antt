@@ -13,9 +13,10 @@ use Rattle.laws.proofs.Tests.{eq-or-ne, ltb-other, le-or-lt}
 use Rattle.table.specs.declared.Table.{Table}
 use Rattle.channels.specs.Channels.{noRequest}
 use Rattle.channels.specs.declared.Request.{Request}
-use Rattle.state.specs.States.{withWaiting, movedUp, withoutFront}
+use Rattle.state.specs.States.{withWaiting, withoutFront}
+use Rattle.state.specs.Parts.{movedUp}
 use Rattle.state.specs.declared.Task.{Task}
-use Rattle.sound_state.specs.SoundState.{waitingSound}
+use Rattle.sound_state.specs.Parts.{waitingSound}
 use Rattle.kept.proofs.Rules.{Kept, namesOf}
 
 -- the place i of a list that moved up is the place after i

@@ -2,7 +2,7 @@
 use Prim.Native.Nat.{ℕ, _+_, _-_, _<_, _≤_}
 use mathlib.Core.Bool.{false, true}
 use mathlib.Core.List.{List}
-use mathlib.Core.Logic.{_≢_, inl, inr, ⊎-elim}
+use mathlib.Core.Logic.{_≢_, _⊎_, inl, inr, ⊎-elim}
 use mathlib.Core.Path.{_≡_, ap, subst, sym}
 use native.Mathlib.Omega.{arith}
 use lib.Dec.{ltb}
@@ -10,6 +10,8 @@ use borrow.Author.Tests.{eqb-false, le-ltb, lt-ltb, ltb-true, ne-eqb}
 use Rattle.laws.specs.Below.{allBelow}
 use Rattle.laws.proofs.Numbers.{below-false}
 use Rattle.laws.proofs.Tests.{and-false, and-left}
+use Rattle.answers.specs.declared.Answer.{Answer}
+use Rattle.answers.specs.declared.Answer.the-variants.{Done, LogFull}
 use Rattle.numbers.specs.Endpoints.{endpointOf}
 use Rattle.numbers.specs.declared.Endpoint.{Endpoint}
 use Rattle.numbers.specs.declared.Endpoint.the-variants.{Gate, Task}
@@ -19,17 +21,20 @@ use Rattle.channels.specs.declared.Message.the-variants.{Abort, Commit, Lock, R
 use Rattle.state.specs.States.{acrossOf, downOf, gateOf, taskOf, upOf}
 use Rattle.state.specs.declared.State.{State}
 use Rattle.delivery.specs.Delivery.{Outcome, between, delivered, wayOf, wayTaken}
-use Rattle.quiet.specs.Quiet.{gatesQuiet, quiet, tasksQuiet}
-use Rattle.quiet.specs.Parts.{oneQuiet, onesQuiet, threeQuiet, threesQuiet}
+use Rattle.quiet.specs.Quiet.{quiet}
+use Rattle.quiet.specs.Parts.{gatesQuiet, oneQuiet, onesQuiet, tasksQuiet, threeQuiet, threesQuiet}
 use Rattle.kept.proofs.Rules.{acrossFit, namesOf}
 use Rattle.protocol.proofs.Cases.{clash}
-use Rattle.line.specs.Law.{goesOn}
 use Rattle.link.proofs.Deliveries.{Safe, safe-fits, safe-rules}
 use Rattle.link.proofs.Made.{Made, done, full}
 use Rattle.link.proofs.Tables.{Lawful}
 use Rattle.link.proofs.ToGate.{made-to-gate}
 use Rattle.link.proofs.ToTask.{made-from-gate, made-to-task}
 use Rattle.law.proofs.There.{across-there, down-there, up-there}
+
+-- a message is delivered, or refused for want of room in the log alone
+abbrev goesOn : Answer → Type 0
+goesOn a = (a ≡ Done) ⊎ (a ≡ LogFull)
 
 -- the endpoints of tasks and gates that are present
 task-endpoint : (T : Table) (t : ℕ) → t < T .tasks → T .tasks ≤ 16 → endpointOf (T .tasks) (T .gates) t ≡ Task (record { 0 = t })

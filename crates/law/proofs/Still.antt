@@ -18,8 +18,8 @@ use Rattle.state.specs.declared.Mode.the-variants.{Free}
 use Rattle.state.specs.declared.State.{State}
 use Rattle.state.specs.declared.Task.{Task}
 use Rattle.tasks.specs.Tasks.{isFree}
-use Rattle.quiet.specs.Quiet.{gatesQuiet, quiet, tasksQuiet}
-use Rattle.quiet.specs.Parts.{oneQuiet, onesQuiet, threeQuiet, threesQuiet}
+use Rattle.quiet.specs.Quiet.{quiet}
+use Rattle.quiet.specs.Parts.{gatesQuiet, oneQuiet, onesQuiet, tasksQuiet, threeQuiet, threesQuiet}
 use Rattle.kept.proofs.States.{StateRules}
 use Rattle.machine.specs.Machine.{enabled, takesPart}
 use Rattle.protocol.proofs.Cases.{clash}

@@ -31,10 +31,6 @@ pub record Allowed (a : Answer) : Type 0 where
   pub not11 : a ≢ Unsound
   pub not12 : a ≢ Excluded
 
--- a message is delivered, or refused for want of room in the log alone
-abbrev pub goesOn : Answer → Type 0
-goesOn a = (a ≡ Done) ⊎ (a ≡ LogFull)
-
 -- A table, the bytes of the log at the start, and the state and log that are reached.
 module _ (T : Table) (before : List ℕ) (s : State) (log : List ℕ) where
   -- the states of the tasks in the replay of the log
@@ -63,5 +59,5 @@ module _ (T : Table) (before : List ℕ) (s : State) (log : List ℕ) where
     -- "LOCKs of gate g, travelling or waiting, plus results on the way to g, number 1 while g is Dealing and 0 while it
     -- is Idle"
     pub oneToken : (g : ℕ) → tokens s g ≡ dealing (gateOf s g .deal)
-    -- where a message is undelivered some delivery goes on
-    pub live : quiet s ≡ false → (from to : ℕ) × goesOn (delivered T s log from to .answer)
+    -- where a message is undelivered some delivery is made, or refused for want of room in the log alone
+    pub live : quiet s ≡ false → (from to : ℕ) × ((delivered T s log from to .answer ≡ Done) ⊎ (delivered T s log from to .answer ≡ LogFull))

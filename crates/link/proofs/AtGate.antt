@@ -8,7 +8,7 @@ use native.Mathlib.Omega.{arith}
 use lib.Dec.{eqb, ltb}
 use lib.ListN.{getD, length}
 use Rattle.laws.specs.Below.{firstFrom}
-use Rattle.sets.specs.Sets.{lowestOf, memberOf, minusOf, unionOf, withOf}
+use Rattle.sets.specs.Sets.{lowestOf, memberOf, minusOf, unionOf, withOf, withoutOf}
 use Rattle.sets.specs.declared.Found.{Found}
 use Rattle.sets.proofs.Ends.{lowest-nobody, lowest-says}
 use Rattle.sets.proofs.Members.{member-minus, member-union, member-with, member-without}
@@ -19,12 +19,13 @@ use Rattle.channels.specs.declared.Channel1.{Channel1}
 use Rattle.channels.specs.declared.Message.{Message}
 use Rattle.channels.specs.declared.Message.the-variants.{Lock}
 use Rattle.channels.specs.declared.Request.{Request}
-use Rattle.state.specs.States.{downOf, upOf, withUp}
+use Rattle.state.specs.States.{downOf, upOf}
+use Rattle.state.specs.Parts.{withUp}
 use Rattle.state.specs.declared.Deal.{Deal}
 use Rattle.state.specs.declared.Deal.the-variants.{Dealing, Idle}
 use Rattle.state.specs.declared.Gate.{Gate}
 use Rattle.state.specs.declared.Task.{Task}
-use Rattle.gates.specs.Gates.{afterAbort, afterCommit, allowed, dealt, fitting, offering, searched, searchedBy, sentDown}
+use Rattle.gates.specs.Gates.{allowed, dealt, fitting, offering, searched, searchedBy, sentDown}
 use Rattle.gates.specs.declared.Work.{Work}
 use Rattle.kept.proofs.Rules.{SizedGate}
 use Rattle.protocol.specs.Lines.{Line}
@@ -55,8 +56,8 @@ upTaken p g = withUp p g (popped3 (upOf p g))
 
 -- the offers after t's result
 abbrev pub offersAfter : Bool → ℕ → ℕ → ℕ → ℕ
-offersAfter true = afterCommit
-offersAfter false = afterAbort
+offersAfter true t offers mask = withoutOf offers t
+offersAfter false t offers mask = withoutOf (unionOf offers mask) t
 
 module _ (S : ℕ → Task) (G : ℕ → Gate) (log : List Request) (t g : ℕ) (ht : t < 16) (hg : g < length (S t .up)) where
   abbrev rest : List Message

@@ -18,7 +18,8 @@ use Rattle.state.specs.declared.Gate.{Gate}
 use Rattle.state.specs.declared.Mode.{Mode}
 use Rattle.state.specs.declared.Mode.the-variants.{Free, Held}
 use Rattle.state.specs.declared.Task.{Task}
-use Rattle.tasks.specs.Tasks.{begun, isFree, listHandled, locked, movedTo, waits}
+use Rattle.tasks.specs.Tasks.{begun, isFree, listHandled, locked, movedTo}
+use Rattle.tasks.specs.Parts.{waits}
 use Rattle.tasks.specs.declared.Work.{Work}
 use Rattle.tasks.proofs.Fired.{moved-fired}
 use Rattle.machine.specs.Machine.{moved}

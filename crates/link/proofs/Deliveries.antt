@@ -18,7 +18,7 @@ use Rattle.table.specs.declared.Table.{Table}
 use Rattle.state.specs.States.{acrossOf, downOf, gateOf, taskOf, upOf}
 use Rattle.state.specs.declared.Link.the-variants.{FromGate, ToGate, ToTask}
 use Rattle.state.specs.declared.State.{State}
-use Rattle.delivery.specs.Delivery.{Outcome, along, between, delivered, refused, sound, deliveredAtGate, deliveredAtTask, wayOf, wayTaken}
+use Rattle.delivery.specs.Delivery.{Outcome, along, between, delivered, refused, soundFor, deliveredAtGate, deliveredAtTask, wayOf, wayTaken}
 use Rattle.delivery.specs.Within.{EndWithin}
 use Rattle.delivery.specs.declared.Way.the-variants.{Along, Nowhere}
 use Rattle.fresh.specs.Fresh.{freshState}
@@ -38,7 +38,7 @@ module _ (T : Table) where
   -- what holds of the line before every delivery
   pub record Safe (s : State) (log : List ℕ) : Type 0 where
     pub sized : SizedState s
-    pub sound : sound T s log ≡ true
+    pub sound : soundFor T s (length log) ≡ true
     pub inv : Invariant (planOf T) (lineOf s log)
 
   pub safe-rules : (s : State) (log : List ℕ) → Safe s log → StateRules T s

@@ -21,7 +21,8 @@ use Rattle.state.specs.declared.State.{State}
 use Rattle.state.specs.declared.Task.{Task}
 use Rattle.tasks.specs.Tasks.{announced}
 use Rattle.tasks.specs.declared.Work.{Work}
-use Rattle.fresh.specs.Fresh.{freshState, started, startedAt}
+use Rattle.fresh.specs.Fresh.{freshState, startedAt}
+use Rattle.fresh.specs.Parts.{started}
 use Rattle.protocol.specs.Lines.{Line, fresh, readyIf}
 use Rattle.protocol.proofs.Agree.{agree-path}
 use Rattle.protocol.proofs.Invariant.{Invariant}

@@ -9,7 +9,8 @@ use lib.Seq.{length-take-le, take-append-le}
 use Rattle.table.specs.declared.Table.{Table}
 use Rattle.channels.specs.Channels.{noRequest}
 use Rattle.channels.specs.declared.Request.{Request}
-use Rattle.state.specs.States.{movedUp, withoutFront}
+use Rattle.state.specs.States.{withoutFront}
+use Rattle.state.specs.Parts.{movedUp}
 use Rattle.state.specs.declared.Gate.{Gate}
 use Rattle.state.specs.declared.Task.{Task}
 use Rattle.tasks.specs.Tasks.{handled, isFree, listHandled, with}

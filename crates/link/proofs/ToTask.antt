@@ -18,7 +18,8 @@ use Rattle.channels.specs.declared.Channel1.{Channel1}
 use Rattle.channels.specs.declared.Message.{Message}
 use Rattle.channels.specs.declared.Message.the-variants.{Abort, Commit, Lock, Ready}
 use Rattle.channels.specs.declared.Request.{Request}
-use Rattle.state.specs.States.{acrossOf, downOf, gateOf, noTask, popOf, taskOf, withAcross, withDown}
+use Rattle.state.specs.States.{acrossOf, downOf, gateOf, noTask, popOf, taskOf, withDown}
+use Rattle.state.specs.Parts.{withAcross}
 use Rattle.state.specs.declared.Link.the-variants.{FromGate, ToTask}
 use Rattle.state.specs.declared.Gate.{Gate}
 use Rattle.state.specs.declared.Mode.{Mode}

@@ -19,7 +19,8 @@ use Rattle.channels.specs.declared.Channel3.{Channel3}
 use Rattle.channels.specs.declared.Message.{Message}
 use Rattle.channels.specs.declared.Message.the-variants.{Lock}
 use Rattle.channels.specs.declared.Request.{Request}
-use Rattle.state.specs.States.{acrossOf, atState, upOf, withAcross, withMode, withUp}
+use Rattle.state.specs.States.{acrossOf, atState, upOf, withMode}
+use Rattle.state.specs.Parts.{withAcross, withUp}
 use Rattle.state.specs.declared.Gate.{Gate}
 use Rattle.state.specs.declared.Mode.the-variants.{Free, Held}
 use Rattle.state.specs.declared.Task.{Task}

@@ -10,7 +10,8 @@ use Rattle.format.proofs.Walks.{Comes, comes-first, comes-more, comes-refused, 
 use Rattle.records.specs.Records.{recordAt}
 use Rattle.table.specs.Tables.{emptyTable}
 use Rattle.table.specs.declared.Table.{Table}
-use Rattle.reader.specs.Rules.{loading, withRecord, noneCame, afterRecord}
+use Rattle.reader.specs.Parts.{loading, noneCame}
+use Rattle.reader.specs.Rules.{withRecord, afterRecord}
 use Rattle.reader.specs.Reader.{faultAt, withRecordAt, refusedOf, endedOf, readOf}
 use Rattle.reader.specs.declared.Progress.{Progress}
 

@@ -8,10 +8,10 @@ use Rattle.answers.specs.Answers.{isDone}
 use Rattle.answers.specs.declared.Answer.{Answer}
 use Rattle.answers.specs.declared.Answer.the-variants.{Done, Missing}
 use Rattle.format.specs.Format.{kindAt, headFault}
-use Rattle.format.specs.Walk.{walkAll}
+use Rattle.format.specs.Walk.{walk}
 use Rattle.records.specs.Records.{recordAt}
 use Rattle.table.specs.Tables.{emptyTable}
-use Rattle.reader.specs.Rules.{Loading, loading, kindFault, fieldFault, withRecord, noneCame, afterRecord}
+use Rattle.reader.specs.Rules.{Loading, kindFault, fieldFault, withRecord, afterRecord}
 use Rattle.reader.specs.declared.Loaded.{Loaded}
 
 -- the first fault of the record at a place, after those before it
@@ -22,7 +22,7 @@ faultAt file at l =
 
 -- what is read with the record at a place
 unfoldable pub withRecordAt : List ℕ → ℕ → Loading → Loading
-withRecordAt file at l = loading (withRecord (l .table) (recordAt file at)) (afterRecord (l .progress) (recordAt file at))
+withRecordAt file at l = record { table = withRecord (l .table) (recordAt file at); progress = afterRecord (l .progress) (recordAt file at) }
 
 -- "empty table, place"
 abbrev pub refusedOf : Answer → ℕ → Loaded
@@ -35,5 +35,8 @@ endedOf n l =
     (refusedOf Missing n)
     (record { table = l .table; answer = Done; place = n })
 
+-- from the first byte, with the empty table, before any record has come
 abbrev pub readOf : List ℕ → Loaded
-readOf file = walkAll file (faultAt file) (withRecordAt file) refusedOf (endedOf (length file)) (loading emptyTable noneCame)
+readOf file =
+    walk file (faultAt file) (withRecordAt file) refusedOf (endedOf (length file)) (length file) 0
+    (record { table = emptyTable; progress = record { kind = 0; came = 0; floor = 0; gate = record { 0 = 0 } } })

@@ -5,7 +5,6 @@ use lib.Dec.{eqb, ltb, leb}
 use lib.ListN.{getD}
 use Rattle.answers.specs.declared.Answer.{Answer}
 use Rattle.answers.specs.declared.Answer.the-variants.{Done, Kind, FieldRange, Order, Missing, TooMany}
-use Rattle.records.specs.Records.{gateNo}
 use Rattle.records.specs.declared.Record.{Record}
 use Rattle.records.specs.declared.Record.the-variants.{System, Task, Transition, Vector}
 use Rattle.sets.specs.Sets.{allBelowOf}
@@ -17,9 +16,6 @@ use Rattle.reader.specs.declared.Progress.{Progress}
 pub record Loading : Type 0 where
   pub table : Table
   pub progress : Progress
-
-abbrev pub loading : Table → Progress → Loading
-loading T p = record { table = T; progress = p }
 
 -- "kind 1 to 4 and allowed here: the first is 1, no second 1, never a lower kind than before (2);
 -- kind above 2 only when all tasks have come (6)"
@@ -73,10 +69,7 @@ withRecord T (Task t states start) = withStates T (t .0) states start
 withRecord T (Transition t from g to) = withMove T (t .0) from (g .0) to
 withRecord T (Vector g mask) = withVector T (g .0) mask
 
--- before the first record, and after an accepted one
-abbrev pub noneCame : Progress
-noneCame = record { kind = 0; came = 0; floor = 0; gate = gateNo 0 }
-
+-- what has come with an accepted record
 unfoldable pub afterRecord : Progress → Record → Progress
 afterRecord p (System tasks gates) = record { kind = 1; came = p .came; floor = p .floor; gate = p .gate }
 afterRecord p (Task t states start) = record { kind = 2; came = t .0 + 1; floor = p .floor; gate = p .gate }

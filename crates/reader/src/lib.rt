@@ -4,7 +4,8 @@ use numbers::GateNo;
 use records::Record;
 use table::Table;
 ghost use mathlib.Core.Path.{_≡_};
-ghost use Rattle.reader.specs.Rules.{loading, noneCame, kindFault, inRange, isNinth, inOrder, fieldFault, withRecord, afterRecord};
+ghost use Rattle.reader.specs.Parts.{loading, noneCame};
+ghost use Rattle.reader.specs.Rules.{kindFault, inRange, isNinth, inOrder, fieldFault, withRecord, afterRecord};
 ghost use Rattle.reader.specs.Reader.{faultAt, refusedOf, endedOf, readOf};
 
 // What the order of the records asks of those that have come: the last one's kind (0 before the

@@ -4,21 +4,13 @@ use mathlib.Core.Bool.{cond}
 use mathlib.Core.List.{List}
 use lib.Dec.{eqb}
 use Rattle.format.specs.Format.{byteAt, wordAt, kindAt}
-use Rattle.numbers.specs.declared.TaskNo.{TaskNo}
-use Rattle.numbers.specs.declared.GateNo.{GateNo}
 use Rattle.records.specs.declared.Record.{Record}
 use Rattle.records.specs.declared.Record.the-variants.{System, Task, Transition, Vector}
-
-abbrev pub taskNo : ℕ → TaskNo
-taskNo n = record { 0 = n }
-
-abbrev pub gateNo : ℕ → GateNo
-gateNo n = record { 0 = n }
 
 -- the record whose head stands at `at`; the body starts four bytes behind it
 unfoldable pub recordAt : List ℕ → ℕ → Record
 recordAt file at =
     cond (eqb (kindAt file at) 1) (System (byteAt file (at + 4)) (byteAt file (at + 5)))
-    (cond (eqb (kindAt file at) 2) (Task (taskNo (byteAt file (at + 4))) (byteAt file (at + 5)) (byteAt file (at + 6)))
-    (cond (eqb (kindAt file at) 3) (Transition (taskNo (byteAt file (at + 4))) (byteAt file (at + 5)) (gateNo (byteAt file (at + 6))) (byteAt file (at + 7)))
-    (Vector (gateNo (byteAt file (at + 4))) (wordAt file (at + 5)))))
+    (cond (eqb (kindAt file at) 2) (Task (record { 0 = byteAt file (at + 4) }) (byteAt file (at + 5)) (byteAt file (at + 6)))
+    (cond (eqb (kindAt file at) 3) (Transition (record { 0 = byteAt file (at + 4) }) (byteAt file (at + 5)) (record { 0 = byteAt file (at + 6) }) (byteAt file (at + 7)))
+    (Vector (record { 0 = byteAt file (at + 4) }) (wordAt file (at + 5)))))

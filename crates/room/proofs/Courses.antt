@@ -12,7 +12,7 @@ use Rattle.table.specs.declared.Table.{Table}
 use Rattle.soundness.specs.Sound.{soundTable}
 use Rattle.schedule.specs.Schedules.{deliveryOf}
 use Rattle.schedule.specs.declared.Delivery.{Delivery}
-use Rattle.delivery.specs.Delivery.{sound}
+use Rattle.delivery.specs.Delivery.{soundFor}
 use Rattle.fresh.specs.Fresh.{freshState, fresh}
 use Rattle.kept.proofs.Entries.{LogInRange, outcome-ranged}
 use Rattle.kept.proofs.Fresh.{fresh-logged, fresh-sized, fresh-all-sound}
@@ -23,7 +23,7 @@ use Rattle.run.specs.Run.{Course, courseBegun, gone, turnAt, course, deliveredB
 
 module _ (T : Table) (log : List ℕ) where
   pub record Good (c : Course) : Type 0 where
-    pub is-sound : sound T (c .state) (c .log) ≡ true
+    pub is-sound : soundFor T (c .state) (length (c .log)) ≡ true
     pub is-sized : SizedState (c .state)
     pub is-long : length (c .log) ≡ length log
     pub in-range : LogInRange (c .state .logged) (c .log)

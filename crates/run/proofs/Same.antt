@@ -6,7 +6,7 @@ use mathlib.Core.Path.{_≡_}
 use lib.ListN.{length}
 use Rattle.laws.proofs.Tests.{either}
 use Rattle.answers.specs.Answers.{isDone}
-use Rattle.delivery.specs.Delivery.{sound, delivered}
+use Rattle.delivery.specs.Delivery.{soundFor, delivered}
 use Rattle.kept.proofs.Kept.{outcome-sound, outcome-sized}
 use Rattle.kept.proofs.States.{SizedState}
 use Rattle.laws.proofs.Turning.{turns-same}
@@ -19,7 +19,7 @@ use Rattle.table.specs.declared.Table.{Table}
 module _ (T : Table) (room : length (T .vectors) ≡ 16) where
   -- what the deliveries keep
   record Good (c : Course) : Type 0 where
-    is-sound : sound T (c .state) (c .log) ≡ true
+    is-sound : soundFor T (c .state) (length (c .log)) ≡ true
     is-sized : SizedState (c .state)
 
   turn-good : (file : List ℕ) (i : ℕ) (c : Course) → Good c → Good (turnAt (deliveredBy T) file i c)
@@ -36,7 +36,7 @@ module _ (T : Table) (room : length (T .vectors) ≡ 16) where
   unfolding delivered
   turn-same file i c h = rw (h .is-sound)
 
-  pub same-course : (s : State) (log : List ℕ) → SizedState s → sound T s log ≡ true → (file : List ℕ) (count : ℕ)
+  pub same-course : (s : State) (log : List ℕ) → SizedState s → soundFor T s (length log) ≡ true → (file : List ℕ) (count : ℕ)
       → course (deliveredBy T) file count (courseBegun s log)
       ≡ course (steppedBy (T .moves) (T .vectors) (T .masks) (T .tasks) (T .gates)) file count (courseBegun s log)
   unfolding course

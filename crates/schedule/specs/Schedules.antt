@@ -7,7 +7,7 @@ use lib.ListN.{length}
 use Rattle.answers.specs.declared.Answer.{Answer}
 use Rattle.answers.specs.declared.Answer.the-variants.{Done, Kind, TooMany}
 use Rattle.format.specs.Format.{byteAt, kindAt, headFault}
-use Rattle.format.specs.Walk.{walkAll}
+use Rattle.format.specs.Walk.{walk}
 use Rattle.schedule.specs.declared.Schedule.{Schedule}
 use Rattle.schedule.specs.declared.Delivery.{Delivery}
 
@@ -25,7 +25,7 @@ endedOf n count = record { answer = Done; place = n; count = count }
 unfoldable pub scheduleOf : List ℕ → Schedule
 scheduleOf file =
     cond (ltb 60000 (length file)) (refusedOf TooMany 60000)
-    (walkAll file (λ (at n : ℕ). faultAt file at) (λ (at n : ℕ). n + 1) refusedOf (endedOf (length file)) 0)
+    (walk file (λ (at n : ℕ). faultAt file at) (λ (at n : ℕ). n + 1) refusedOf (endedOf (length file)) (length file) 0 0)
 
 -- delivery i of an accepted file: "from, to", behind the head of the record at 6 * i
 unfoldable pub deliveryOf : List ℕ → ℕ → Delivery

@@ -9,7 +9,7 @@ use Rattle.channels.specs.Channels.{noRequest, isReady, empty1, empty3}
 use Rattle.channels.specs.declared.Request.{Request}
 use Rattle.channels.specs.declared.Channel1.{Channel1}
 use Rattle.channels.specs.declared.Channel3.{Channel3}
-use Rattle.sound_state.specs.SoundState.{upSound, waitingSound, acrossFits, downFits}
+use Rattle.sound_state.specs.SoundState.{isNoRequest, names, upSound, acrossFits, downFits}
 
 -- a place of a list or a channel: one in use holds what fits there, and any other the filler
 abbrev pub place : Bool → Bool → Bool → Bool
@@ -32,8 +32,12 @@ abbrev pub upsSound : Bool → ℕ → List Channel3 → Bool
 upsSound present gates up = allBelow 16 (upAt present gates up)
 
 module _ (vectors masks : List ℕ) where
+  -- a place of the waiting list
+  abbrev pub waitingSound : ℕ → Bool → Request → Bool
+  waitingSound t used r = cond used (names vectors masks t r) (isNoRequest r)
+
   abbrev pub waitingAt : ℕ → ℕ → List Request → ℕ → Bool
-  waitingAt t count waiting i = waitingSound vectors masks t (ltb i count) (getD waiting i noRequest)
+  waitingAt t count waiting i = waitingSound t (ltb i count) (getD waiting i noRequest)
 
   abbrev pub waitingsSound : ℕ → ℕ → List Request → Bool
   waitingsSound t count waiting = allBelow 16 (waitingAt t count waiting)

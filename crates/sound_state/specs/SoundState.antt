@@ -68,10 +68,6 @@ module _ (vectors masks : List ℕ) where
   modeSound t count Free = eqb count 0
   modeSound t count (Held r) = names t r && isSomebody (nextAboveOf (maskOf masks (r .gate .0) (r .vector)) t)
 
-  -- a place of the waiting list: what is unused holds the filler
-  abbrev pub waitingSound : ℕ → Bool → Request → Bool
-  waitingSound t used r = cond used (names t r) (isNoRequest r)
-
   -- what task a may send task b: "higher tasks LOCK, lower tasks COMMIT and ABORT"; "a result names a present gate"
   abbrev pub acrossFits : ℕ → ℕ → ℕ → Message → Bool
   acrossFits gates a b Ready = false
@@ -94,7 +90,7 @@ module _ (vectors masks : List ℕ) where
     taskSound t states p =
         (cond (ltb t tasks) (ltb (p .state) states) (eqb (p .state) 0)
         && (modeSound t (p .count) (p .mode) && leb (p .count) 16))
-        && (allBelow 16 (λ (i : ℕ). waitingSound t (ltb i (p .count)) (getD (p .waiting) i noRequest))
+        && (allBelow 16 (λ (i : ℕ). let r = getD (p .waiting) i noRequest in cond (ltb i (p .count)) (names t r) (isNoRequest r))
         && (allBelow 16 (λ (g : ℕ). upSound (ltb t tasks && ltb g gates) g (upOf p g))
         && allBelow 16 (λ (b : ℕ). channelSound (ltb t tasks && ltb b tasks) (acrossFits gates t b) (acrossOf p b))))
 

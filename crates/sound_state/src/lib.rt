@@ -15,8 +15,8 @@ use state::State;
 use state::Task;
 ghost use mathlib.Core.Path.{_≡_};
 ghost use Rattle.sound_state.specs.Quiet.{noneWaits, isEmpty, isSilent, isReadyOnly, allReady};
-ghost use Rattle.sound_state.specs.SoundState.{isSomebody, isNoRequest, names, modeSound, waitingSound, upFits, upSound, acrossFits, downFits, dealSound, taskSound, gateSound, soundState};
-ghost use Rattle.sound_state.specs.Parts.{oneSound, place, room, stateSound, waitingsSound, upsSound, acrossesSound, downsSound};
+ghost use Rattle.sound_state.specs.SoundState.{isSomebody, isNoRequest, names, modeSound, upFits, upSound, acrossFits, downFits, dealSound, taskSound, gateSound, soundState};
+ghost use Rattle.sound_state.specs.Parts.{oneSound, place, room, stateSound, waitingSound, waitingsSound, upsSound, acrossesSound, downsSound};
 
 // Whether a state keeps the rules that number 11 asks of it, by the parts of the table that they speak of.
 pub fn sound<'a>(

@@ -16,7 +16,8 @@ use Rattle.table.specs.declared.Table.{Table}
 use Rattle.table.specs.declared.Move.the-variants.{To}
 use Rattle.table.proofs.Cells.{InRoom, in-room, entryOf, entry-at}
 use Rattle.soundness.proofs.Rows.{cell-sound}
-use Rattle.soundness.specs.Sound.{taskFits, taskEntrySound, mostAt, movesSound, vectorFits, gateEntrySound, soundTable}
+use Rattle.soundness.specs.Parts.{taskFits}
+use Rattle.soundness.specs.Sound.{taskEntrySound, mostAt, movesSound, vectorFits, gateEntrySound, soundTable}
 use Rattle.soundness.proofs.Rows.{moveSound}
 
 pub record Rules (T : Table) : Type 0 where

@@ -11,12 +11,10 @@ use Rattle.table.specs.Tables.{countIn, maskOf, newBelow}
 use Rattle.table.specs.declared.Table.{Table}
 
 -- a task's states and start: a present task's count in its bounds and its start below it, an absent one's empty
-abbrev pub taskFits : Bool → ℕ → ℕ → Bool
-taskFits present states start =
-    cond present (countIn states && ltb start states) (eqb states 0 && eqb start 0)
-
 abbrev pub taskEntrySound : Table → ℕ → Bool
-taskEntrySound T t = taskFits (ltb t (T .tasks)) (getD (T .states) t 0) (getD (T .starts) t 0)
+taskEntrySound T t =
+    let states = getD (T .states) t 0 in let start = getD (T .starts) t 0 in
+    cond (ltb t (T .tasks)) (countIn states && ltb start states) (eqb states 0 && eqb start 0)
 
 -- the most that the cell of task t, state x and gate g holds: a transition has a present state, gate and target
 abbrev pub mostAt : Table → ℕ → ℕ → ℕ → ℕ

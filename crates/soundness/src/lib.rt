@@ -8,7 +8,8 @@ ghost use lib.Dec.{ltb, leb};
 ghost use lib.ListN.{getD, replicate};
 ghost use Rattle.laws.specs.Below.{allBelow};
 ghost use Rattle.table.specs.Tables.{cellOf};
-ghost use Rattle.soundness.specs.Sound.{taskFits, taskEntrySound, movesSound, vectorFits, gateEntrySound, soundTable};
+ghost use Rattle.soundness.specs.Parts.{taskFits};
+ghost use Rattle.soundness.specs.Sound.{taskEntrySound, movesSound, vectorFits, gateEntrySound, soundTable};
 
 pub fn sound(table: Table) -> bool
     ensures { λ r. ⌜ r ≡ soundTable table ⌝ }

@@ -25,12 +25,9 @@ use Rattle.state.specs.declared.Popped.{Popped}
 use Rattle.state.specs.declared.PutTask.{PutTask}
 use Rattle.state.specs.declared.PutGate.{PutGate}
 
--- "An empty task is at state 0, Free, nothing waiting": with this room for what waits and for what it sends
-abbrev pub emptyWith : List Request → List Channel3 → List Channel1 → Task
-emptyWith waiting up across = record { state = 0; mode = Free; count = 0; waiting = waiting; up = up; across = across }
-
+-- "An empty task is at state 0, Free, nothing waiting"
 abbrev pub emptyTask : Task
-emptyTask = emptyWith (replicate 16 noRequest) (replicate 16 empty3) (replicate 16 empty1)
+emptyTask = record { state = 0; mode = Free; count = 0; waiting = replicate 16 noRequest; up = replicate 16 empty3; across = replicate 16 empty1 }
 
 -- "an empty gate is Idle, no offers. The empty state has all parties and channels empty and log count 0."
 abbrev pub emptyGate : Gate
@@ -41,7 +38,7 @@ emptyState = record { tasks = replicate 16 emptyTask; gates = replicate 16 empty
 
 -- what stands outside the 16 tasks and the 16 gates, and has no room
 abbrev pub noTask : Task
-noTask = emptyWith [] [] []
+noTask = record { state = 0; mode = Free; count = 0; waiting = []; up = []; across = [] }
 
 abbrev pub noGate : Gate
 noGate = record { offers = 0; deal = Idle; down = [] }
@@ -87,12 +84,6 @@ withAllUp p l = record { state = p .state; mode = p .mode; count = p .count; wai
 abbrev pub withAllAcross : Task → List Channel1 → Task
 withAllAcross p l = record { state = p .state; mode = p .mode; count = p .count; waiting = p .waiting; up = p .up; across = l }
 
-abbrev pub withUp : Task → ℕ → Channel3 → Task
-withUp p g c = withAllUp p (set (p .up) g c)
-
-abbrev pub withAcross : Task → ℕ → Channel1 → Task
-withAcross p b c = withAllAcross p (set (p .across) b c)
-
 abbrev pub withDown : Gate → ℕ → Channel1 → Gate
 withDown k b c = record { offers = k .offers; deal = k .deal; down = set (k .down) b c }
 
@@ -100,11 +91,8 @@ withDown k b c = record { offers = k .offers; deal = k .deal; down = set (k .dow
 abbrev pub withLast : Task → Request → Task
 withLast p r = cond (ltb (p .count) 16) (withWaiting p (p .count + 1) (set (p .waiting) (p .count) r)) p
 
-abbrev pub movedUp : List Request → List Request
-movedUp l = drop 1 l ++ noRequest ∷ []
-
 abbrev pub withoutFront : Task → Task
-withoutFront p = withWaiting p (p .count - 1) (movedUp (p .waiting))
+withoutFront p = withWaiting p (p .count - 1) (drop 1 (p .waiting) ++ noRequest ∷ [])
 
 -- "It takes the oldest message of the channel named": the front of a channel of n messages, the first of them m
 abbrev pub frontOf : ℕ → Message → Front
@@ -112,32 +100,26 @@ frontOf n m = cond (eqb n 0) Nothing (Oldest m)
 
 -- a party without the oldest message of a channel, and that message; a number outside 16 finds no channel
 abbrev pub popUp : Task → ℕ → PoppedTask
-popUp p g = record { task = withUp p g (popped3 (upOf p g)); front = frontOf (upOf p g .count) (upOf p g .first) }
+popUp p g = record { task = withAllUp p (set (p .up) g (popped3 (upOf p g))); front = frontOf (upOf p g .count) (upOf p g .first) }
 
 abbrev pub popAcross : Task → ℕ → PoppedTask
-popAcross p b = record { task = withAcross p b empty1; front = frontOf (acrossOf p b .count) (acrossOf p b .first) }
+popAcross p b = record { task = withAllAcross p (set (p .across) b empty1); front = frontOf (acrossOf p b .count) (acrossOf p b .first) }
 
 abbrev pub popDown : Gate → ℕ → PoppedGate
 popDown k b = record { gate = withDown k b empty1; front = frontOf (downOf k b .count) (downOf k b .first) }
 
 -- a party with a message put last in a channel, and whether there was room
 abbrev pub putUp : Task → ℕ → Message → PutTask
-putUp p g m = record { task = withUp p g (put3 (upOf p g) m); room = ltb (upOf p g .count) 3 }
+putUp p g m = record { task = withAllUp p (set (p .up) g (put3 (upOf p g) m)); room = ltb (upOf p g .count) 3 }
 
 abbrev pub putAcross : Task → ℕ → Message → PutTask
-putAcross p b m = record { task = withAcross p b (put1 (acrossOf p b) m); room = ltb (acrossOf p b .count) 1 }
+putAcross p b m = record { task = withAllAcross p (set (p .across) b (put1 (acrossOf p b) m)); room = ltb (acrossOf p b .count) 1 }
 
 abbrev pub putDown : Gate → ℕ → Message → PutGate
 putDown k b m = record { gate = withDown k b (put1 (downOf k b) m); room = ltb (downOf k b .count) 1 }
 
--- the state after its party's pop or put
-abbrev afterTaskPop : State → ℕ → PoppedTask → Popped
-afterTaskPop s t p = record { state = withTask s t (p .task); front = p .front }
-
-abbrev afterGatePop : State → ℕ → PoppedGate → Popped
-afterGatePop s g p = record { state = withGate s g (p .gate); front = p .front }
-
+-- the state after its party's pop
 abbrev pub popOf : State → Link → Popped
-popOf s (ToGate t g) = afterTaskPop s (t .0) (popUp (taskOf s (t .0)) (g .0))
-popOf s (FromGate g t) = afterGatePop s (g .0) (popDown (gateOf s (g .0)) (t .0))
-popOf s (ToTask t b) = afterTaskPop s (t .0) (popAcross (taskOf s (t .0)) (b .0))
+popOf s (ToGate t g) = let p = popUp (taskOf s (t .0)) (g .0) in record { state = withTask s (t .0) (p .task); front = p .front }
+popOf s (FromGate g t) = let p = popDown (gateOf s (g .0)) (t .0) in record { state = withGate s (g .0) (p .gate); front = p .front }
+popOf s (ToTask t b) = let p = popAcross (taskOf s (t .0)) (b .0) in record { state = withTask s (t .0) (p .task); front = p .front }

@@ -16,7 +16,6 @@ use Rattle.channels.specs.declared.Request.{Request}
 use Rattle.channels.specs.declared.Message.{Message}
 use Rattle.channels.specs.declared.Message.the-variants.{Ready, Lock, Commit, Abort}
 use Rattle.state.specs.States.{upOf, atState, withMode, withLast, withoutFront, putUp, putAcross}
-use Rattle.state.specs.declared.PutTask.{PutTask}
 use Rattle.state.specs.declared.Mode.{Mode}
 use Rattle.state.specs.declared.Mode.the-variants.{Free, Held}
 use Rattle.state.specs.declared.Task.{Task}
@@ -33,14 +32,11 @@ begun p = record { task = p; ok = true; fired = 0; entries = replicate 16 noRequ
 abbrev pub excluded : Task → Work
 excluded p = record { task = p; ok = false; fired = 0; entries = replicate 16 noRequest }
 
-abbrev pub sending : Work → PutTask → Work
-sending w put = with w (put .task) (w .ok && put .room)
-
 abbrev pub sentUp : Work → ℕ → Message → Work
-sentUp w g m = sending w (putUp (w .task) g m)
+sentUp w g m = let put = putUp (w .task) g m in with w (put .task) (w .ok && put .room)
 
 abbrev pub sentAcross : Work → ℕ → Message → Work
-sentAcross w b m = sending w (putAcross (w .task) b m)
+sentAcross w b m = let put = putAcross (w .task) b m in with w (put .task) (w .ok && put .room)
 
 -- "the entry is written after the log's last"
 abbrev pub entered : Work → Request → Work
@@ -49,10 +45,6 @@ entered w r = record { task = w .task; ok = w .ok; fired = w .fired + 1; entries
 abbrev pub isFree : Mode → Bool
 isFree Free = true
 isFree (Held r) = false
-
--- "a Held task puts it last on its waiting list"; a 17th request is excluded
-abbrev pub waits : Task → Request → Work
-waits p r = cond (ltb (p .count) 16) (begun (withLast p r)) (excluded p)
 
 abbrev pub heldBy : ℕ → Mode → Bool
 heldBy g Free = false
@@ -90,17 +82,15 @@ module _ (moves : List ℕ) (gates b : ℕ) where
   accepted r mask found.Nobody w =
       movedTo (moveOf moves b (w .task .state) (r .gate .0)) (sent b mask (r .gate .0) (Commit (r .gate)) (entered w r))
 
-  -- a Free task handles a lock request; not ready: "ABORT to each lower task of the vector, ascending, then to the gate"
-  abbrev pub handledBy : Request → ℕ → Work → Work
-  handledBy r mask w =
-      cond (readyOf moves b (w .task .state) (r .gate .0))
-      (accepted r mask (nextAboveOf mask b) w)
-      (sent b mask (r .gate .0) (Abort (r .gate)) w)
-
   -- The masks of the table's vectors.
   module _ (masks : List ℕ) where
+    -- a Free task handles a lock request; not ready: "ABORT to each lower task of the vector, ascending, then to the gate"
     unfoldable pub handled : Request → Work → Work
-    handled r w = handledBy r (maskOf masks (r .gate .0) (r .vector)) w
+    handled r w =
+        let mask = maskOf masks (r .gate .0) (r .vector) in
+        cond (readyOf moves b (w .task .state) (r .gate .0))
+        (accepted r mask (nextAboveOf mask b) w)
+        (sent b mask (r .gate .0) (Abort (r .gate)) w)
 
     -- "The list is handled from the front, for as long as the task is Free": n requests of it
     unfoldable pub listHandled : ℕ → Work → Work
@@ -108,9 +98,10 @@ module _ (moves : List ℕ) (gates b : ℕ) where
     listHandled (suc n) w =
         cond (isFree (w .task .mode)) (listHandled n (handled (getD (w .task .waiting) 0 noRequest) (with w (withoutFront (w .task)) (w .ok)))) w
 
+    -- "a Held task puts it last on its waiting list"; a 17th request is excluded
     abbrev pub locked : Task → Request → Mode → Work
     locked p r Free = handled r (begun p)
-    locked p r (Held q) = waits p r
+    locked p r (Held q) = cond (ltb (p .count) 16) (begun (withLast p r)) (excluded p)
 
     -- "COMMIT: the task moves along its transition for that gate, is Free, announces itself, then handles its waiting
     -- list"; excluded at a task not Held by that gate, and with no transition for it

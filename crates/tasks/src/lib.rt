@@ -13,8 +13,8 @@ ghost use mathlib.Core.Path.{_≡_};
 ghost use Prim.Native.Nat.{_+_, _≤_, _<_};
 ghost use Rattle.channels.specs.Channels.{endsReady};
 ghost use Rattle.table.specs.Tables.{readyOf};
-ghost use Rattle.tasks.specs.Parts.{announcedUp};
-ghost use Rattle.tasks.specs.Tasks.{with, begun, excluded, sentUp, sentAcross, entered, isFree, waits, heldBy, sentBelow, sent, movedTo, accepted, handledBy, handled, listHandled, locked, committed, aborted, atTask};
+ghost use Rattle.tasks.specs.Parts.{announcedUp, waits, handledBy};
+ghost use Rattle.tasks.specs.Tasks.{with, begun, excluded, sentUp, sentAcross, entered, isFree, heldBy, sentBelow, sent, movedTo, accepted, handled, listHandled, locked, committed, aborted, atTask};
 
 // The work of one delivery on its receiver: the task so far, whether all of it is allowed, and the
 // log entries of it.

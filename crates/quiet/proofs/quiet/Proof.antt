@@ -6,7 +6,8 @@ use native.Mathlib.Omega.{arith}
 use borrow.Author.Needs.{needs}
 use Rattle.laws.proofs.Numbers.{below-none, below-turn}
 use Rattle.laws.specs.Below.{allBelow}
-use Rattle.quiet.specs.Quiet.{tasksQuiet, gatesQuiet, quiet}
+use Rattle.quiet.specs.Quiet.{quiet}
+use Rattle.quiet.specs.Parts.{tasksQuiet, gatesQuiet}
 use Rattle.quiet.proofs.quiet.Statement.{statement}
 use Rattle.quiet.proofs.quiet.Tie as tie
 
