@@ -5,7 +5,7 @@
 // makes none, which is what the others have in common.
 mod rounds;
 
-ghost use Prim.Native.Nat.{_≤_, _<_};
+ghost use Prim.Native.Nat.{_≤_};
 ghost use lib.ListN.{length};
 
 const INPUT: usize = 262144;
@@ -39,8 +39,11 @@ fn lines(input: &[u8]) {
 fn one(rest: &[u8]) -> usize
     ensures { λ r. ⌜ r ≤ length (now (rest .entry)) ⌝ }
 {
-    let schedule = HEAD + word(rest, 5);
-    let end = schedule + word(rest, 9);
+    if rest.len() < HEAD {
+        return 0;
+    }
+    let schedule = HEAD + reads::four(&rest[5..]) as usize;
+    let end = schedule + reads::four(&rest[9..]) as usize;
     if rest.len() < end {
         return 0;
     }
@@ -48,7 +51,7 @@ fn one(rest: &[u8]) -> usize
     let mut text = [0u8; TEXT];
     let typed = print(
         rest[0],
-        word(rest, 1),
+        reads::four(&rest[1..]) as usize,
         &rest[HEAD..schedule],
         &rest[schedule..end],
         &mut log,
@@ -92,21 +95,4 @@ fn print<'a>(
         after,
         log,
     )
-}
-
-// The number in the four bytes from a place on.
-fn word(list: &[u8], at: usize) -> usize
-    requires { ⌜ at < 4294967296 ⌝ }
-    ensures { λ r. ⌜ r < 4294967296 ⌝ }
-{
-    wide(list, at)
-        + wide(list, at + 1) * 256
-        + wide(list, at + 2) * 65536
-        + wide(list, at + 3) * 16777216
-}
-
-fn wide(list: &[u8], i: usize) -> usize
-    ensures { λ r. ⌜ r < 256 ⌝ }
-{
-    reads::byte(list, i) as usize
 }

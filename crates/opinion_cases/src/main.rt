@@ -6,7 +6,6 @@ mod shown;
 
 use state::State;
 use table::Table;
-ghost use Prim.Native.Nat.{_<_};
 ghost use Rattle.io.specs.Counts.{Counts};
 
 // The most cases that are run.
@@ -52,9 +51,9 @@ fn one(number: usize) -> bool {
     if io::read_full(0, &mut head) < HEAD {
         return false;
     }
-    let table = word(&head, 0);
-    let schedule = word(&head, 4);
-    let room = word(&head, 8);
+    let table = reads::four(&head) as usize;
+    let schedule = reads::four(&head[4..]) as usize;
+    let room = reads::four(&head[8..]) as usize;
     if (FILE < table) | (FILE < schedule) | (LOG < room) {
         return false;
     }
@@ -79,23 +78,6 @@ fn filled(buffer: &mut [u8], size: usize) -> usize
 {
     let n = text::within(buffer, size);
     io::read_full(0, &mut buffer[..n])
-}
-
-// The number in the four bytes from a place on.
-fn word(list: &[u8], at: usize) -> usize
-    requires { ⌜ at < 4294967296 ⌝ }
-    ensures { λ r. ⌜ r < 4294967296 ⌝ }
-{
-    wide(list, at)
-        + wide(list, at + 1) * 256
-        + wide(list, at + 2) * 65536
-        + wide(list, at + 3) * 16777216
-}
-
-fn wide(list: &[u8], i: usize) -> usize
-    ensures { λ r. ⌜ r < 256 ⌝ }
-{
-    reads::byte(list, i) as usize
 }
 
 fn headed(number: usize) {

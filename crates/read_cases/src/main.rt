@@ -5,7 +5,7 @@
 use reader::Loaded;
 use schedule::Schedule;
 use table::Table;
-ghost use Prim.Native.Nat.{_≤_, _<_};
+ghost use Prim.Native.Nat.{_≤_};
 ghost use lib.ListN.{length};
 ghost use Rattle.io.specs.Counts.{Counts};
 
@@ -48,11 +48,11 @@ fn one(rest: &[u8]) -> usize
         return 0;
     }
     let name = unit - 8;
-    let size = word(&rest[name..]);
+    let size = reads::four(&rest[name..]) as usize;
     if ROOM < size {
         return 0;
     }
-    let end = unit + word(&rest[unit - 4..]);
+    let end = unit + reads::four(&rest[unit - 4..]) as usize;
     if rest.len() < end {
         return 0;
     }
@@ -63,19 +63,6 @@ fn one(rest: &[u8]) -> usize
     judge(rest[0], &rest[unit..end], size);
     io::write_all(1, b"\n");
     end
-}
-
-// The number in the first four bytes.
-fn word(list: &[u8]) -> usize
-    ensures { λ r. ⌜ r < 4294967296 ⌝ }
-{
-    wide(list, 0) + wide(list, 1) * 256 + wide(list, 2) * 65536 + wide(list, 3) * 16777216
-}
-
-fn wide(list: &[u8], i: usize) -> usize
-    ensures { λ r. ⌜ r < 256 ⌝ }
-{
-    reads::byte(list, i) as usize
 }
 
 // Nothing repeated fills no file but the empty one.
@@ -163,7 +150,7 @@ fn vectors(counts: &[u8]) -> usize {
     let mut sum = 0;
     let mut i = 0;
     while i < Table::GATES {
-        sum += wide(counts, i);
+        sum += reads::byte(counts, i) as usize;
         i += 1;
     }
     sum

@@ -13,8 +13,11 @@ abbrev μ-loop : tie.MeasureT-loop
 loop-holds : tie.Need-loop-holds Inv-loop μ-loop
 loop-holds c = search needs
 
-wide-requires : tie.Need-wide-requires Inv-loop μ-loop
-wide-requires c κs = search needs
+byte-requires : tie.Need-byte-requires Inv-loop μ-loop
+byte-requires c κs = search needs
+
+cast-sum : tie.Need-cast-sum Inv-loop μ-loop
+cast-sum c = search needs
 
 add-sum : tie.Need-add-sum Inv-loop μ-loop
 add-sum c = search needs
@@ -34,4 +37,4 @@ returns c = search needs
 pub vectors-spec : {M : Type 1} → statement M
 vectors-spec =
     tie.close
-    (tie.spec Inv-loop μ-loop loop-holds wide-requires add-sum add-i loop-less loop-again returns)
+    (tie.spec Inv-loop μ-loop loop-holds byte-requires cast-sum add-sum add-i loop-less loop-again returns)

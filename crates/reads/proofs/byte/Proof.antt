@@ -12,7 +12,7 @@ returns : tie.Need-returns
 returns c = search needs
 
 returns-2 : tie.Need-returns-2
-returns-2 c = sym (List·getD-eq-default (c .before .args .list .now) 0 {n = c .before .args .i} (search needs))
+returns-2 c = sym (List·getD-eq-default (c .before .args .bytes .now) 0 {n = c .before .args .i} (search needs))
 
 pub byte-spec : {M : Type 1} → statement M
 byte-spec = tie.close (tie.spec shared-slice-read-result returns returns-2)
