@@ -49,16 +49,18 @@ returns-3 c = rw (
 
 returns-4 : tie.Need-returns-4
 unfolding headFault
-returns-4 c = rw (
-  ← c .before .before .before .before .before .before .before .left-from .ensures,
-  le-ltb _ _ (c .before .before .before .before .before .before .if1 .left),
-  ← c .before .before .before .before .before .is-done .ensures,
-  c .before .before .before .before .if2 .left,
-  ← c .before .before .before .size-at .ensures,
-  ← c .before .before .word-at .ensures,
-  eq-eqb _ _ (c .before .if3 .left),
-  lt-ltb _ _ (c .if4 .taken),
-)
+returns-4 c =
+    let cutOff : c .before .before .before .before .before .before .before .left-from .result < c .before .before .before .size-at .result = c .if4 .taken in
+    rw (
+      ← c .before .before .before .before .before .before .before .left-from .ensures,
+      le-ltb _ _ (c .before .before .before .before .before .before .if1 .left),
+      ← c .before .before .before .before .before .is-done .ensures,
+      c .before .before .before .before .if2 .left,
+      ← c .before .before .before .size-at .ensures,
+      ← c .before .before .word-at .ensures,
+      eq-eqb _ _ (c .before .if3 .left),
+      lt-ltb _ _ cutOff,
+    )
 
 returns-5 : tie.Need-returns-5
 unfolding headFault
