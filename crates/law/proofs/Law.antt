@@ -11,8 +11,8 @@ use Rattle.accepted.proofs.Accepted.{accepted-sound, accepted-sized}
 use Rattle.schedule.specs.declared.Delivery.{Delivery}
 use Rattle.delivery.specs.Delivery.{Outcome}
 use Rattle.protocol.proofs.Counted.{one-under-way}
-use Rattle.line.specs.Law.{Allowed, Law}
-use Rattle.line.specs.Answered.{Each, answers}
+use Rattle.line.specs.Law.{Law}
+use Rattle.line.specs.Answered.{Allowed, Each, answers}
 use Rattle.line.specs.Runs.{lineBegun, runFrom}
 use Rattle.link.proofs.View.{lineOf}
 use Rattle.link.proofs.Tables.{planOf, Lawful, lawful}

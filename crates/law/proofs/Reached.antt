@@ -17,8 +17,7 @@ use Rattle.delivery.specs.Delivery.{Outcome, delivered}
 use Rattle.fresh.specs.Fresh.{fresh}
 use Rattle.kept.proofs.Ends.{refused-changes-nothing}
 use Rattle.kept.proofs.Log.{log-behind}
-use Rattle.line.specs.Law.{Allowed}
-use Rattle.line.specs.Answered.{Each, answers}
+use Rattle.line.specs.Answered.{Allowed, Each, answers}
 use Rattle.line.specs.Runs.{lineBegun, run}
 use Rattle.link.proofs.Made.{done, full}
 use Rattle.link.proofs.Deliveries.{Safe, Answered, no-channel, empty, made, answered, safe-after, safe-fresh}
@@ -26,10 +25,10 @@ use Rattle.link.proofs.Tables.{Lawful}
 
 -- an answer with a number below 11
 allowed-by : (a : Answer) → numberOf a ≤ 10 → Allowed a
-allowed-by a h = record {
-  not11 = λ e. (let n : numberOf a ≡ 11 = ap numberOf e in omega arith);
-  not12 = λ e. (let n : numberOf a ≡ 12 = ap numberOf e in omega arith);
-}
+allowed-by a h = (
+  λ e. (let n : numberOf a ≡ 11 = ap numberOf e in omega arith),
+  λ e. (let n : numberOf a ≡ 12 = ap numberOf e in omega arith),
+)
 
 abbrev AllowedAt : Outcome → Type 0
 AllowedAt o = Allowed (o .answer)

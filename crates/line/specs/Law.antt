@@ -5,7 +5,6 @@ use mathlib.Core.List.{List}
 use mathlib.Core.Logic.{_≢_, _⊎_}
 use mathlib.Core.Path.{_≡_}
 use lib.ListN.{getD, length}
-use Rattle.answers.specs.declared.Answer.{Answer}
 use Rattle.answers.specs.declared.Answer.the-variants.{Done, LogFull, Unsound, Excluded}
 use Rattle.table.specs.Tables.{moveOf}
 use Rattle.table.specs.declared.Move.the-variants.{To}
@@ -26,11 +25,6 @@ use Rattle.line.specs.Tokens.{tokens}
 abbrev pub travels : State → ℕ → ℕ → Message → Type 0
 travels s a b m = (acrossOf (taskOf s a) b .count ≢ 0) × (acrossOf (taskOf s a) b .first ≡ m)
 
--- what the protocol never meets from Fresh on: "Demand 3 includes that neither occurs after Fresh"
-pub record Allowed (a : Answer) : Type 0 where
-  pub not11 : a ≢ Unsound
-  pub not12 : a ≢ Excluded
-
 -- A table, the bytes of the log at the start, and the state and log that are reached.
 module _ (T : Table) (before : List ℕ) (s : State) (log : List ℕ) where
   -- the states of the tasks in the replay of the log
@@ -44,8 +38,9 @@ module _ (T : Table) (before : List ℕ) (s : State) (log : List ℕ) where
     pub backed : s .logged * 2 ≤ length log
     pub long : length log ≡ length before
     pub behind : (i : ℕ) → s .logged * 2 ≤ i → getD log i 0 ≡ getD before i 0
-    -- "the stated queue sizes are never too small", nor is anything else met that 11 or 12 names
-    pub allowed : (from to : ℕ) → Allowed (delivered T s log from to .answer)
+    -- "the stated queue sizes are never too small", nor is anything else met that 11 or 12 names: "Demand 3 includes that
+    -- neither occurs after Fresh"
+    pub allowed : (from to : ℕ) → (let a = delivered T s log from to .answer in (a ≢ Unsound) × (a ≢ Excluded))
     -- "when no message is undelivered, no task is held and no vector has all its tasks ready"; nor does a request wait
     pub noneHeld : quiet s ≡ true → (t : ℕ) → taskOf s t .mode ≡ Free
     pub noneWaits : quiet s ≡ true → (t : ℕ) → taskOf s t .count ≡ 0
@@ -60,4 +55,4 @@ module _ (T : Table) (before : List ℕ) (s : State) (log : List ℕ) where
     -- is Idle"
     pub oneToken : (g : ℕ) → tokens s g ≡ dealing (gateOf s g .deal)
     -- where a message is undelivered some delivery is made, or refused for want of room in the log alone
-    pub live : quiet s ≡ false → (from to : ℕ) × ((delivered T s log from to .answer ≡ Done) ⊎ (delivered T s log from to .answer ≡ LogFull))
+    pub live : quiet s ≡ false → (from to : ℕ) × (let a = delivered T s log from to .answer in (a ≡ Done) ⊎ (a ≡ LogFull))

@@ -22,7 +22,7 @@ faultAt file at l =
 
 -- what is read with the record at a place
 unfoldable pub withRecordAt : List ℕ → ℕ → Loading → Loading
-withRecordAt file at l = record { table = withRecord (l .table) (recordAt file at); progress = afterRecord (l .progress) (recordAt file at) }
+withRecordAt file at l = let r = recordAt file at in record { table = withRecord (l .table) r; progress = afterRecord (l .progress) r }
 
 -- "empty table, place"
 abbrev pub refusedOf : Answer → ℕ → Loaded

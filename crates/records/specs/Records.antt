@@ -10,7 +10,8 @@ use Rattle.records.specs.declared.Record.the-variants.{System, Task, Tra
 -- the record whose head stands at `at`; the body starts four bytes behind it
 unfoldable pub recordAt : List ℕ → ℕ → Record
 recordAt file at =
-    cond (eqb (kindAt file at) 1) (System (byteAt file (at + 4)) (byteAt file (at + 5)))
-    (cond (eqb (kindAt file at) 2) (Task (record { 0 = byteAt file (at + 4) }) (byteAt file (at + 5)) (byteAt file (at + 6)))
-    (cond (eqb (kindAt file at) 3) (Transition (record { 0 = byteAt file (at + 4) }) (byteAt file (at + 5)) (record { 0 = byteAt file (at + 6) }) (byteAt file (at + 7)))
-    (Vector (record { 0 = byteAt file (at + 4) }) (wordAt file (at + 5)))))
+    let byte : ℕ → ℕ = λ (i : ℕ). byteAt file (at + i) in
+    cond (eqb (kindAt file at) 1) (System (byte 4) (byte 5))
+    (cond (eqb (kindAt file at) 2) (Task (record { 0 = byte 4 }) (byte 5) (byte 6))
+    (cond (eqb (kindAt file at) 3) (Transition (record { 0 = byte 4 }) (byte 5) (record { 0 = byte 6 }) (byte 7))
+    (Vector (record { 0 = byte 4 }) (wordAt file (at + 5)))))

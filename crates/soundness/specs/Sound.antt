@@ -33,7 +33,7 @@ vectorFits masks g count tasks v =
 
 -- "0 to 8 vectors a gate", none at an absent one
 abbrev pub gateEntrySound : Table → ℕ → Bool
-gateEntrySound T g = leb (getD (T .vectors) g 0) (cond (ltb g (T .gates)) 8 0) && allBelow 8 (vectorFits (T .masks) g (getD (T .vectors) g 0) (T .tasks))
+gateEntrySound T g = let n = getD (T .vectors) g 0 in leb n (cond (ltb g (T .gates)) 8 0) && allBelow 8 (vectorFits (T .masks) g n (T .tasks))
 
 unfoldable pub soundTable : Table → Bool
 soundTable T =

@@ -27,7 +27,8 @@ use Rattle.state.specs.declared.PutGate.{PutGate}
 
 -- "An empty task is at state 0, Free, nothing waiting"
 abbrev pub emptyTask : Task
-emptyTask = record { state = 0; mode = Free; count = 0; waiting = replicate 16 noRequest; up = replicate 16 empty3; across = replicate 16 empty1 }
+emptyTask =
+    record { state = 0; mode = Free; count = 0; waiting = replicate 16 noRequest; up = replicate 16 empty3; across = replicate 16 empty1 }
 
 -- "an empty gate is Idle, no offers. The empty state has all parties and channels empty and log count 0."
 abbrev pub emptyGate : Gate
@@ -100,13 +101,13 @@ frontOf n m = cond (eqb n 0) Nothing (Oldest m)
 
 -- a party without the oldest message of a channel, and that message; a number outside 16 finds no channel
 abbrev pub popUp : Task → ℕ → PoppedTask
-popUp p g = record { task = withAllUp p (set (p .up) g (popped3 (upOf p g))); front = frontOf (upOf p g .count) (upOf p g .first) }
+popUp p g = let c = upOf p g in record { task = withAllUp p (set (p .up) g (popped3 c)); front = frontOf (c .count) (c .first) }
 
 abbrev pub popAcross : Task → ℕ → PoppedTask
-popAcross p b = record { task = withAllAcross p (set (p .across) b empty1); front = frontOf (acrossOf p b .count) (acrossOf p b .first) }
+popAcross p b = let c = acrossOf p b in record { task = withAllAcross p (set (p .across) b empty1); front = frontOf (c .count) (c .first) }
 
 abbrev pub popDown : Gate → ℕ → PoppedGate
-popDown k b = record { gate = withDown k b empty1; front = frontOf (downOf k b .count) (downOf k b .first) }
+popDown k b = let c = downOf k b in record { gate = withDown k b empty1; front = frontOf (c .count) (c .first) }
 
 -- a party with a message put last in a channel, and whether there was room
 abbrev pub putUp : Task → ℕ → Message → PutTask

@@ -96,7 +96,8 @@ module _ (moves : List ℕ) (gates b : ℕ) where
     unfoldable pub listHandled : ℕ → Work → Work
     listHandled zero w = w
     listHandled (suc n) w =
-        cond (isFree (w .task .mode)) (listHandled n (handled (getD (w .task .waiting) 0 noRequest) (with w (withoutFront (w .task)) (w .ok)))) w
+        let p = w .task in
+        cond (isFree (p .mode)) (listHandled n (handled (getD (p .waiting) 0 noRequest) (with w (withoutFront p) (w .ok)))) w
 
     -- "a Held task puts it last on its waiting list"; a 17th request is excluded
     abbrev pub locked : Task → Request → Mode → Work
