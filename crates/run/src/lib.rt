@@ -8,7 +8,7 @@ ghost use mathlib.Core.Path.{_≡_};
 ghost use Prim.Native.Nat.{_+_, _-_, _/_, _≤_};
 ghost use lib.Dec.{ltb};
 ghost use Rattle.schedule.specs.Schedules.{deliveryOf};
-ghost use Rattle.run.specs.Parts.{wayBy, stopped};
+ghost use Rattle.run.specs.Parts.{wayBy, answered, stopped};
 ghost use Rattle.run.specs.Run.{courseBegun, course, ranOf, steppedBy};
 
 // The state after the run, the last answer, and how many deliveries were done.
@@ -56,6 +56,23 @@ fn counted(length: usize, logged: usize, fired: u8) -> usize
     logged + fired as usize
 }
 
+// The answer to a delivery after 11 and 8, in this order: 9 of an empty channel, 12 where the receiver's work is not allowed,
+// 10 of a full log.
+fn answered(empty: bool, ok: bool, full: bool) -> Answer
+    ensures { λ r. ⌜ r ≡ answered empty ok full ⌝ }
+{
+    if empty {
+        return Answer::ChannelEmpty;
+    }
+    if !ok {
+        return Answer::Excluded;
+    }
+    if full {
+        return Answer::LogFull;
+    }
+    Answer::Done
+}
+
 // A run that ends with a refusal after so many deliveries.
 fn stopped(state: State, answer: Answer, made: usize) -> Ran
     ensures { λ r. ⌜ r ≡ stopped state answer made ⌝ }
@@ -69,7 +86,8 @@ fn stopped(state: State, answer: Answer, made: usize) -> Ran
 
 // Makes the deliveries of a schedule file in turn until one is refused. Each arm takes the parties of its kind of channel out
 // of the state, works on them, and stores them back when the delivery is done: it stands in the loop, since a call that takes
-// the state by value would copy it, and ends with its own turn.
+// the state by value would copy it, and ends with its own turn. What a receiver does with the filler of an empty channel is
+// not looked at.
 pub fn run<'a>(
     moves: &'a [u8],
     vectors: &'a [u8],
@@ -98,14 +116,12 @@ pub fn run<'a>(
                     let receiver = s.gates[z];
                     let mut up = sender.up;
                     let channel = up[z];
-                    if channel.count == 0 {
-                        return stopped(s, Answer::ChannelEmpty, i);
-                    }
                     let message = channel.first;
                     let vector_count = reads::byte(vectors, z);
                     let work = gates::at_gate(masks, vector_count, g, t, receiver, message);
-                    if !work.ok {
-                        return stopped(s, Answer::Excluded, i);
+                    let answer = answered(channel.count == 0, work.ok, false);
+                    if !answers::is_done(answer) {
+                        return stopped(s, answer, i);
                     }
                     let gate = work.gate;
                     up[z] = channel.popped();
@@ -122,16 +138,12 @@ pub fn run<'a>(
                     let mut sender = s.gates[z];
                     let receiver = s.tasks[y];
                     let channel = sender.down[y];
-                    if channel.count == 0 {
-                        return stopped(s, Answer::ChannelEmpty, i);
-                    }
                     let message = channel.first;
                     let work = tasks::at_task(moves, gates, b, masks, receiver, message);
-                    if !work.ok {
-                        return stopped(s, Answer::Excluded, i);
-                    }
-                    if is_full(log.len(), n, work.fired) {
-                        return stopped(s, Answer::LogFull, i);
+                    let full = is_full(log.len(), n, work.fired);
+                    let answer = answered(channel.count == 0, work.ok, full);
+                    if !answers::is_done(answer) {
+                        return stopped(s, answer, i);
                     }
                     let task = work.task;
                     let entries = work.entries;
@@ -151,16 +163,12 @@ pub fn run<'a>(
                     let receiver = s.tasks[y];
                     let mut across = sender.across;
                     let channel = across[y];
-                    if channel.count == 0 {
-                        return stopped(s, Answer::ChannelEmpty, i);
-                    }
                     let message = channel.first;
                     let work = tasks::at_task(moves, gates, b, masks, receiver, message);
-                    if !work.ok {
-                        return stopped(s, Answer::Excluded, i);
-                    }
-                    if is_full(log.len(), n, work.fired) {
-                        return stopped(s, Answer::LogFull, i);
+                    let full = is_full(log.len(), n, work.fired);
+                    let answer = answered(channel.count == 0, work.ok, full);
+                    if !answers::is_done(answer) {
+                        return stopped(s, answer, i);
                     }
                     let task = work.task;
                     let entries = work.entries;

@@ -1,17 +1,19 @@
 -- `run` meets its contract: before turn i the state and the log are what the first i deliveries left, all of them done.
 use Prim.Native.Nat.{_-_, _≤_}
+use mathlib.Core.Bool.{true, false}
 use mathlib.Core.Path.{_≡_, refl, sym, ap, _∙_}
 use native.Mathlib.Omega.{arith}
 use lib.ListN.{length}
-use Rattle.answers.specs.declared.Answer.the-variants.{Done, NoChannel, ChannelEmpty, LogFull, Excluded}
+use Rattle.answers.specs.Answers.{isDone}
+use Rattle.answers.specs.declared.Answer.the-variants.{Done, NoChannel}
 use Rattle.delivery.specs.declared.Way.the-variants.{Along}
 use Rattle.kept.proofs.Log.{written-length}
 use Rattle.run.specs.Run.{Course, courseBegun, course, ranOf, steppedBy}
 use Rattle.run.proofs.Within.{link-within}
-use Rattle.run.proofs.Steps.{nowhere, to-gate, from-gate, to-task}
+use Rattle.run.proofs.Steps.{answered-room, nowhere, to-gate, from-gate, to-task}
 use Rattle.run.proofs.Turns.{soFar, turns, turn-done, ends-refused}
 use borrow.Author.Needs.{needs}
-use borrow.Author.Tests.{eq-eqb, ne-eqb, ltb-false}
+use borrow.Author.Tests.{not-true, not-false, ltb-false}
 use Rattle.run.proofs.run.Statement.{statement}
 use Rattle.run.proofs.run.Tie as tie
 
@@ -40,8 +42,8 @@ returns : tie.Need-returns Inv-loop μ-loop
 returns c =
     let a = c .before .before .before .before .before .before .before .before .before .before .before .args in
     let l = c .before .before .before .before .before .loop in
-    let e = nowhere (a .moves .now) (a .vectors .now) (a .masks .now) (a .tasks) (a .gates) (l .s) (l .log) _ (c .before .before .before .way-at .result) (c .before .before .before .way-at .ensures) (c .before .enum-told .given .1) in
-    let h = ends-refused (steppedBy (a .moves .now) (a .vectors .now) (a .masks .now) (a .tasks) (a .gates)) (a .file .now) (courseBegun (a .t6) (a .log .now)) (l .s) (l .log) (l .i) (l .inv .2) NoChannel refl e (a .count) (c .before .before .before .before .loop-test .taken) in
+    let e = nowhere (a .moves .now) (a .vectors .now) (a .masks .now) (a .gates) (l .s) (l .log) (a .tasks) _ (c .before .before .before .way-at .result) (c .before .before .before .way-at .ensures) (c .before .enum-told .given .1) in
+    let h = ends-refused _ _ _ (l .s) (l .log) (l .i) (l .inv .2) NoChannel refl e (a .count) (c .before .before .before .before .loop-test .taken) in
     (c .stopped .ensures ∙ ap ranOf (sym h), ap (λ (x : Course). x .log) (sym h))
 
 enum-known-link : tie.Need-enum-known-link Inv-loop μ-loop
@@ -74,39 +76,32 @@ mul-channel c = omega (arith, link-within _ _ _ _ _ (c .before .before .before .
 array-copy-out-channel : tie.Need-array-copy-out-channel Inv-loop μ-loop
 array-copy-out-channel c = omega (arith, link-within _ _ _ _ _ (c .before .before .before .before .before .before .before .before .before .before .before .way-at .ensures) (c .before .before .before .before .before .before .before .before .before .link .given .1 ∙ ap Along (c .before .before .before .before .before .before .link2 .given .1)))
 
-stopped-requires-2 : tie.Need-stopped-requires-2 Inv-loop μ-loop
-stopped-requires-2 c κs = search needs
-
-same-length-2 : tie.Need-same-length-2 Inv-loop μ-loop
-same-length-2 c = c .before .before .before .before .before .before .before .before .before .before .before .before .before .before .before .before .before .loop .inv .1
-
-returns-2 : tie.Need-returns-2 Inv-loop μ-loop
-returns-2 c =
-    let a = c .before .before .before .before .before .before .before .before .before .before .before .before .before .before .before .before .before .before .before .before .before .before .before .args in
-    let l = c .before .before .before .before .before .before .before .before .before .before .before .before .before .before .before .before .before .loop in
-    let e = to-gate (a .moves .now) (a .vectors .now) (a .masks .now) (a .tasks) (a .gates) (l .s) (l .log) _ (c .before .before .before .before .before .before .before .before .before .before .before .before .before .before .before .way-at .result) (c .before .before .before .before .before .before .before .before .before .before .before .before .before .before .before .way-at .ensures) _ _ (c .before .before .before .before .before .before .before .before .before .before .before .before .before .link .given .1 ∙ ap Along (c .before .before .before .before .before .before .before .before .before .before .link2 .given .1)) in
-    let h = ends-refused (steppedBy (a .moves .now) (a .vectors .now) (a .masks .now) (a .tasks) (a .gates)) (a .file .now) (courseBegun (a .t6) (a .log .now)) (l .s) (l .log) (l .i) (l .inv .2) ChannelEmpty refl (e ∙ rw (eq-eqb _ _ (c .before .if1 .taken))) (a .count) (c .before .before .before .before .before .before .before .before .before .before .before .before .before .before .before .before .loop-test .taken) in
-    (c .stopped2 .ensures ∙ ap ranOf (sym h), ap (λ (x : Course). x .log) (sym h))
-
 byte-requires : tie.Need-byte-requires Inv-loop μ-loop
 byte-requires c κs = search needs
 
 at-gate-requires : tie.Need-at-gate-requires Inv-loop μ-loop
 at-gate-requires c κs = search needs
 
-stopped-requires-3 : tie.Need-stopped-requires-3 Inv-loop μ-loop
-stopped-requires-3 c κs = search needs
+answered-requires : tie.Need-answered-requires Inv-loop μ-loop
+answered-requires c κs = search needs
 
-same-length-3 : tie.Need-same-length-3 Inv-loop μ-loop
-same-length-3 c = c .before .before .before .before .before .before .before .before .before .before .before .before .before .before .before .before .before .before .before .before .before .loop .inv .1
+is-done-requires : tie.Need-is-done-requires Inv-loop μ-loop
+is-done-requires c κs = search needs
 
-returns-3 : tie.Need-returns-3 Inv-loop μ-loop
-returns-3 c =
+stopped-requires-2 : tie.Need-stopped-requires-2 Inv-loop μ-loop
+stopped-requires-2 c κs = search needs
+
+same-length-2 : tie.Need-same-length-2 Inv-loop μ-loop
+same-length-2 c = c .before .before .before .before .before .before .before .before .before .before .before .before .before .before .before .before .before .before .before .before .before .loop .inv .1
+
+returns-2 : tie.Need-returns-2 Inv-loop μ-loop
+returns-2 c =
     let a = c .before .before .before .before .before .before .before .before .before .before .before .before .before .before .before .before .before .before .before .before .before .before .before .before .before .before .before .args in
     let l = c .before .before .before .before .before .before .before .before .before .before .before .before .before .before .before .before .before .before .before .before .before .loop in
-    let e = to-gate (a .moves .now) (a .vectors .now) (a .masks .now) (a .tasks) (a .gates) (l .s) (l .log) _ (c .before .before .before .before .before .before .before .before .before .before .before .before .before .before .before .before .before .before .before .way-at .result) (c .before .before .before .before .before .before .before .before .before .before .before .before .before .before .before .before .before .before .before .way-at .ensures) _ _ (c .before .before .before .before .before .before .before .before .before .before .before .before .before .before .before .before .before .link .given .1 ∙ ap Along (c .before .before .before .before .before .before .before .before .before .before .before .before .before .before .link2 .given .1)) in
-    let h = ends-refused (steppedBy (a .moves .now) (a .vectors .now) (a .masks .now) (a .tasks) (a .gates)) (a .file .now) (courseBegun (a .t6) (a .log .now)) (l .s) (l .log) (l .i) (l .inv .2) Excluded refl (e ∙ rw (ne-eqb _ _ (c .before .before .before .before .before .if1 .left), ← c .before .before .before .before .byte .ensures, ← c .before .before .before .at-gate .ensures, c .before .if2 .taken)) (a .count) (c .before .before .before .before .before .before .before .before .before .before .before .before .before .before .before .before .before .before .before .before .loop-test .taken) in
-    (c .stopped3 .ensures ∙ ap ranOf (sym h), ap (λ (x : Course). x .log) (sym h))
+    let e = to-gate (a .moves .now) (a .vectors .now) (a .masks .now) (a .gates) (l .s) (l .log) (a .tasks) _ (c .before .before .before .before .before .before .before .before .before .before .before .before .before .before .before .before .before .before .before .way-at .result) (c .before .before .before .before .before .before .before .before .before .before .before .before .before .before .before .before .before .before .before .way-at .ensures) _ _ (c .before .before .before .before .before .before .before .before .before .before .before .before .before .before .before .before .before .link .given .1 ∙ ap Along (c .before .before .before .before .before .before .before .before .before .before .before .before .before .before .link2 .given .1)) in
+    let refused : isDone (c .before .before .before .answered .result) ≡ false = sym (c .before .before .is-done .ensures) ∙ not-true _ (c .before .if1 .taken) in
+    let h = ends-refused _ _ _ (l .s) (l .log) (l .i) (l .inv .2) (c .before .before .before .answered .result) refused (e ∙ rw (← c .before .before .before .before .before .before .byte .ensures, ← c .before .before .before .before .before .at-gate .ensures, ← c .before .before .before .answered .ensures, refused)) (a .count) (c .before .before .before .before .before .before .before .before .before .before .before .before .before .before .before .before .before .before .before .before .loop-test .taken) in
+    (c .stopped2 .ensures ∙ ap ranOf (sym h), ap (λ (x : Course). x .log) (sym h))
 
 popped-requires : tie.Need-popped-requires Inv-loop μ-loop
 popped-requires c κs = search needs
@@ -146,8 +141,9 @@ loop-again c =
     let a = c .before .before .before .before .before .before .before .before .before .before .before .before .before .before .before .before .before .before .before .before .before .before .before .before .before .before .before .before .before .args in
     let l = c .before .before .before .before .before .before .before .before .before .before .before .before .before .before .before .before .before .before .before .before .before .before .before .loop in
     let t = c .before .before .before .before .before .before .before .before .before .before .before .before .before .before .before .before .before .before .before .before .before .before .loop-test .taken in
-    let e = to-gate (a .moves .now) (a .vectors .now) (a .masks .now) (a .tasks) (a .gates) (l .s) (l .log) _ (c .before .before .before .before .before .before .before .before .before .before .before .before .before .before .before .before .before .before .before .before .before .way-at .result) (c .before .before .before .before .before .before .before .before .before .before .before .before .before .before .before .before .before .before .before .before .before .way-at .ensures) _ _ (c .before .before .before .before .before .before .before .before .before .before .before .before .before .before .before .before .before .before .before .link .given .1 ∙ ap Along (c .before .before .before .before .before .before .before .before .before .before .before .before .before .before .before .before .link2 .given .1)) in
-    let h = turn-done (steppedBy (a .moves .now) (a .vectors .now) (a .masks .now) (a .tasks) (a .gates)) (a .file .now) (courseBegun (a .t6) (a .log .now)) (l .s) (l .log) (l .i) (l .inv .2) _ _ (rw (ne-eqb _ _ (c .before .before .before .before .before .before .before .if1 .left), ← c .before .before .before .before .before .before .byte .ensures, ← c .before .before .before .before .before .at-gate .ensures, c .before .before .before .if2 .left) at e) in
+    let e = to-gate (a .moves .now) (a .vectors .now) (a .masks .now) (a .gates) (l .s) (l .log) (a .tasks) _ (c .before .before .before .before .before .before .before .before .before .before .before .before .before .before .before .before .before .before .before .before .before .way-at .result) (c .before .before .before .before .before .before .before .before .before .before .before .before .before .before .before .before .before .before .before .before .before .way-at .ensures) _ _ (c .before .before .before .before .before .before .before .before .before .before .before .before .before .before .before .before .before .before .before .link .given .1 ∙ ap Along (c .before .before .before .before .before .before .before .before .before .before .before .before .before .before .before .before .link2 .given .1)) in
+    let done : isDone (c .before .before .before .before .before .answered .result) ≡ true = sym (c .before .before .before .before .is-done .ensures) ∙ not-false _ (c .before .before .before .if1 .left) in
+    let h = turn-done (steppedBy (a .moves .now) (a .vectors .now) (a .masks .now) (a .tasks) (a .gates)) (a .file .now) (courseBegun (a .t6) (a .log .now)) (l .s) (l .log) (l .i) (l .inv .2) _ _ (rw (← c .before .before .before .before .before .before .before .before .byte .ensures, ← c .before .before .before .before .before .before .before .at-gate .ensures, ← c .before .before .before .before .before .answered .ensures, done) at e) in
     (omega arith, l .inv .1, rw (c .with-all-up .ensures, c .before .popped .ensures) h)
 
 enum-known-link-3 : tie.Need-enum-known-link-3 Inv-loop μ-loop
@@ -177,100 +173,80 @@ mul-channel-2 c = omega (arith, link-within _ _ _ _ _ (c .before .before .before
 element-copy-out-channel : tie.Need-element-copy-out-channel Inv-loop μ-loop
 element-copy-out-channel c = omega (arith, link-within _ _ _ _ _ (c .before .before .before .before .before .before .before .before .before .before .way-at .ensures) (c .before .before .before .before .before .before .before .before .link .given .1 ∙ ap Along (c .before .before .before .before .before .link3 .given .1)))
 
-stopped-requires-4 : tie.Need-stopped-requires-4 Inv-loop μ-loop
-stopped-requires-4 c κs = search needs
-
-same-length-4 : tie.Need-same-length-4 Inv-loop μ-loop
-same-length-4 c = c .before .before .before .before .before .before .before .before .before .before .before .before .before .before .before .before .loop .inv .1
-
-returns-4 : tie.Need-returns-4 Inv-loop μ-loop
-returns-4 c =
-    let a = c .before .before .before .before .before .before .before .before .before .before .before .before .before .before .before .before .before .before .before .before .before .before .args in
-    let l = c .before .before .before .before .before .before .before .before .before .before .before .before .before .before .before .before .loop in
-    let e = from-gate (a .moves .now) (a .vectors .now) (a .masks .now) (a .tasks) (a .gates) (l .s) (l .log) _ (c .before .before .before .before .before .before .before .before .before .before .before .before .before .before .way-at .result) (c .before .before .before .before .before .before .before .before .before .before .before .before .before .before .way-at .ensures) _ _ (c .before .before .before .before .before .before .before .before .before .before .before .before .link .given .1 ∙ ap Along (c .before .before .before .before .before .before .before .before .before .link3 .given .1)) in
-    let h = ends-refused (steppedBy (a .moves .now) (a .vectors .now) (a .masks .now) (a .tasks) (a .gates)) (a .file .now) (courseBegun (a .t6) (a .log .now)) (l .s) (l .log) (l .i) (l .inv .2) ChannelEmpty refl (e ∙ rw (eq-eqb _ _ (c .before .if3 .taken))) (a .count) (c .before .before .before .before .before .before .before .before .before .before .before .before .before .before .before .loop-test .taken) in
-    (c .stopped4 .ensures ∙ ap ranOf (sym h), ap (λ (x : Course). x .log) (sym h))
-
 at-task-requires : tie.Need-at-task-requires Inv-loop μ-loop
 at-task-requires c κs = search needs
-
-stopped-requires-5 : tie.Need-stopped-requires-5 Inv-loop μ-loop
-stopped-requires-5 c κs = search needs
-
-same-length-5 : tie.Need-same-length-5 Inv-loop μ-loop
-same-length-5 c = c .before .before .before .before .before .before .before .before .before .before .before .before .before .before .before .before .before .before .before .loop .inv .1
-
-returns-5 : tie.Need-returns-5 Inv-loop μ-loop
-returns-5 c =
-    let a = c .before .before .before .before .before .before .before .before .before .before .before .before .before .before .before .before .before .before .before .before .before .before .before .before .before .args in
-    let l = c .before .before .before .before .before .before .before .before .before .before .before .before .before .before .before .before .before .before .before .loop in
-    let e = from-gate (a .moves .now) (a .vectors .now) (a .masks .now) (a .tasks) (a .gates) (l .s) (l .log) _ (c .before .before .before .before .before .before .before .before .before .before .before .before .before .before .before .before .before .way-at .result) (c .before .before .before .before .before .before .before .before .before .before .before .before .before .before .before .before .before .way-at .ensures) _ _ (c .before .before .before .before .before .before .before .before .before .before .before .before .before .before .before .link .given .1 ∙ ap Along (c .before .before .before .before .before .before .before .before .before .before .before .before .link3 .given .1)) in
-    let h = ends-refused (steppedBy (a .moves .now) (a .vectors .now) (a .masks .now) (a .tasks) (a .gates)) (a .file .now) (courseBegun (a .t6) (a .log .now)) (l .s) (l .log) (l .i) (l .inv .2) Excluded refl (e ∙ rw (ne-eqb _ _ (c .before .before .before .before .if3 .left), ← c .before .before .before .at-task .ensures, c .before .if4 .taken)) (a .count) (c .before .before .before .before .before .before .before .before .before .before .before .before .before .before .before .before .before .before .loop-test .taken) in
-    (c .stopped5 .ensures ∙ ap ranOf (sym h), ap (λ (x : Course). x .log) (sym h))
 
 is-full-requires : tie.Need-is-full-requires Inv-loop μ-loop
 is-full-requires c κs = search needs
 
-stopped-requires-6 : tie.Need-stopped-requires-6 Inv-loop μ-loop
-stopped-requires-6 c κs = search needs
+answered-requires-2 : tie.Need-answered-requires-2 Inv-loop μ-loop
+answered-requires-2 c κs = search needs
 
-same-length-6 : tie.Need-same-length-6 Inv-loop μ-loop
-same-length-6 c = c .before .before .before .before .before .before .before .before .before .before .before .before .before .before .before .before .before .before .before .before .before .loop .inv .1
+is-done-requires-2 : tie.Need-is-done-requires-2 Inv-loop μ-loop
+is-done-requires-2 c κs = search needs
 
-returns-6 : tie.Need-returns-6 Inv-loop μ-loop
-returns-6 c =
-    let a = c .before .before .before .before .before .before .before .before .before .before .before .before .before .before .before .before .before .before .before .before .before .before .before .before .before .before .before .args in
-    let l = c .before .before .before .before .before .before .before .before .before .before .before .before .before .before .before .before .before .before .before .before .before .loop in
-    let e = from-gate (a .moves .now) (a .vectors .now) (a .masks .now) (a .tasks) (a .gates) (l .s) (l .log) _ (c .before .before .before .before .before .before .before .before .before .before .before .before .before .before .before .before .before .before .before .way-at .result) (c .before .before .before .before .before .before .before .before .before .before .before .before .before .before .before .before .before .before .before .way-at .ensures) _ _ (c .before .before .before .before .before .before .before .before .before .before .before .before .before .before .before .before .before .link .given .1 ∙ ap Along (c .before .before .before .before .before .before .before .before .before .before .before .before .before .before .link3 .given .1)) in
-    let full = sym (c .before .before .is-full .ensures) ∙ c .before .if5 .taken in
-    let h = ends-refused (steppedBy (a .moves .now) (a .vectors .now) (a .masks .now) (a .tasks) (a .gates)) (a .file .now) (courseBegun (a .t6) (a .log .now)) (l .s) (l .log) (l .i) (l .inv .2) LogFull refl (e ∙ rw (ne-eqb _ _ (c .before .before .before .before .before .before .if3 .left), ← c .before .before .before .before .before .at-task .ensures, c .before .before .before .if4 .left, full)) (a .count) (c .before .before .before .before .before .before .before .before .before .before .before .before .before .before .before .before .before .before .before .before .loop-test .taken) in
-    (c .stopped6 .ensures ∙ ap ranOf (sym h), ap (λ (x : Course). x .log) (sym h))
+stopped-requires-3 : tie.Need-stopped-requires-3 Inv-loop μ-loop
+stopped-requires-3 c κs = search needs
+
+same-length-3 : tie.Need-same-length-3 Inv-loop μ-loop
+same-length-3 c = c .before .before .before .before .before .before .before .before .before .before .before .before .before .before .before .before .before .before .before .before .loop .inv .1
+
+returns-3 : tie.Need-returns-3 Inv-loop μ-loop
+returns-3 c =
+    let a = c .before .before .before .before .before .before .before .before .before .before .before .before .before .before .before .before .before .before .before .before .before .before .before .before .before .before .args in
+    let l = c .before .before .before .before .before .before .before .before .before .before .before .before .before .before .before .before .before .before .before .before .loop in
+    let e = from-gate (a .moves .now) (a .vectors .now) (a .masks .now) (a .gates) (l .s) (l .log) (a .tasks) _ (c .before .before .before .before .before .before .before .before .before .before .before .before .before .before .before .before .before .before .way-at .result) (c .before .before .before .before .before .before .before .before .before .before .before .before .before .before .before .before .before .before .way-at .ensures) _ _ (c .before .before .before .before .before .before .before .before .before .before .before .before .before .before .before .before .link .given .1 ∙ ap Along (c .before .before .before .before .before .before .before .before .before .before .before .before .before .link3 .given .1)) in
+    let refused : isDone (c .before .before .before .answered2 .result) ≡ false = sym (c .before .before .is-done2 .ensures) ∙ not-true _ (c .before .if2 .taken) in
+    let h = ends-refused _ _ _ (l .s) (l .log) (l .i) (l .inv .2) (c .before .before .before .answered2 .result) refused (e ∙ rw (← c .before .before .before .before .before .before .at-task .ensures, ← c .before .before .before .before .before .is-full .ensures, ← c .before .before .before .answered2 .ensures, refused)) (a .count) (c .before .before .before .before .before .before .before .before .before .before .before .before .before .before .before .before .before .before .before .loop-test .taken) in
+    (c .stopped3 .ensures ∙ ap ranOf (sym h), ap (λ (x : Course). x .log) (sym h))
 
 empty-requires : tie.Need-empty-requires Inv-loop μ-loop
 empty-requires c κs = search needs
 
-mul-t78 : tie.Need-mul-t78 Inv-loop μ-loop
-mul-t78 c = omega (arith, link-within _ _ _ _ _ (c .before .before .before .before .before .before .before .before .before .before .before .before .before .before .before .before .before .before .before .before .before .way-at .ensures) (c .before .before .before .before .before .before .before .before .before .before .before .before .before .before .before .before .before .before .before .link .given .1 ∙ ap Along (c .before .before .before .before .before .before .before .before .before .before .before .before .before .before .before .before .link3 .given .1)))
+mul-t81 : tie.Need-mul-t81 Inv-loop μ-loop
+mul-t81 c = omega (arith, link-within _ _ _ _ _ (c .before .before .before .before .before .before .before .before .before .before .before .before .before .before .before .before .before .before .before .before .way-at .ensures) (c .before .before .before .before .before .before .before .before .before .before .before .before .before .before .before .before .before .before .link .given .1 ∙ ap Along (c .before .before .before .before .before .before .before .before .before .before .before .before .before .before .before .link3 .given .1)))
 
 element-set-from-sender : tie.Need-element-set-from-sender Inv-loop μ-loop
-element-set-from-sender c = omega (arith, link-within _ _ _ _ _ (c .before .before .before .before .before .before .before .before .before .before .before .before .before .before .before .before .before .before .before .before .before .way-at .ensures) (c .before .before .before .before .before .before .before .before .before .before .before .before .before .before .before .before .before .before .before .link .given .1 ∙ ap Along (c .before .before .before .before .before .before .before .before .before .before .before .before .before .before .before .before .link3 .given .1)))
+element-set-from-sender c = omega (arith, link-within _ _ _ _ _ (c .before .before .before .before .before .before .before .before .before .before .before .before .before .before .before .before .before .before .before .before .way-at .ensures) (c .before .before .before .before .before .before .before .before .before .before .before .before .before .before .before .before .before .before .link .given .1 ∙ ap Along (c .before .before .before .before .before .before .before .before .before .before .before .before .before .before .before .link3 .given .1)))
 
-mul-t78-2 : tie.Need-mul-t78-2 Inv-loop μ-loop
-mul-t78-2 c = omega (arith, link-within _ _ _ _ _ (c .before .before .before .before .before .before .before .before .before .before .before .before .before .before .before .before .before .before .before .before .before .way-at .ensures) (c .before .before .before .before .before .before .before .before .before .before .before .before .before .before .before .before .before .before .before .link .given .1 ∙ ap Along (c .before .before .before .before .before .before .before .before .before .before .before .before .before .before .before .before .link3 .given .1)))
+mul-t81-2 : tie.Need-mul-t81-2 Inv-loop μ-loop
+mul-t81-2 c = omega (arith, link-within _ _ _ _ _ (c .before .before .before .before .before .before .before .before .before .before .before .before .before .before .before .before .before .before .before .before .way-at .ensures) (c .before .before .before .before .before .before .before .before .before .before .before .before .before .before .before .before .before .before .link .given .1 ∙ ap Along (c .before .before .before .before .before .before .before .before .before .before .before .before .before .before .before .link3 .given .1)))
 
 element-set-from-s : tie.Need-element-set-from-s Inv-loop μ-loop
-element-set-from-s c = omega (arith, link-within _ _ _ _ _ (c .before .before .before .before .before .before .before .before .before .before .before .before .before .before .before .before .before .before .before .before .before .way-at .ensures) (c .before .before .before .before .before .before .before .before .before .before .before .before .before .before .before .before .before .before .before .link .given .1 ∙ ap Along (c .before .before .before .before .before .before .before .before .before .before .before .before .before .before .before .before .link3 .given .1)))
+element-set-from-s c = omega (arith, link-within _ _ _ _ _ (c .before .before .before .before .before .before .before .before .before .before .before .before .before .before .before .before .before .before .before .before .way-at .ensures) (c .before .before .before .before .before .before .before .before .before .before .before .before .before .before .before .before .before .before .link .given .1 ∙ ap Along (c .before .before .before .before .before .before .before .before .before .before .before .before .before .before .before .link3 .given .1)))
 
 mul-task : tie.Need-mul-task Inv-loop μ-loop
-mul-task c = omega (arith, link-within _ _ _ _ _ (c .before .before .before .before .before .before .before .before .before .before .before .before .before .before .before .before .before .before .before .before .before .way-at .ensures) (c .before .before .before .before .before .before .before .before .before .before .before .before .before .before .before .before .before .before .before .link .given .1 ∙ ap Along (c .before .before .before .before .before .before .before .before .before .before .before .before .before .before .before .before .link3 .given .1)))
+mul-task c = omega (arith, link-within _ _ _ _ _ (c .before .before .before .before .before .before .before .before .before .before .before .before .before .before .before .before .before .before .before .before .way-at .ensures) (c .before .before .before .before .before .before .before .before .before .before .before .before .before .before .before .before .before .before .link .given .1 ∙ ap Along (c .before .before .before .before .before .before .before .before .before .before .before .before .before .before .before .link3 .given .1)))
 
 element-set-from-task : tie.Need-element-set-from-task Inv-loop μ-loop
-element-set-from-task c = omega (arith, link-within _ _ _ _ _ (c .before .before .before .before .before .before .before .before .before .before .before .before .before .before .before .before .before .before .before .before .before .way-at .ensures) (c .before .before .before .before .before .before .before .before .before .before .before .before .before .before .before .before .before .before .before .link .given .1 ∙ ap Along (c .before .before .before .before .before .before .before .before .before .before .before .before .before .before .before .before .link3 .given .1)))
+element-set-from-task c = omega (arith, link-within _ _ _ _ _ (c .before .before .before .before .before .before .before .before .before .before .before .before .before .before .before .before .before .before .before .before .way-at .ensures) (c .before .before .before .before .before .before .before .before .before .before .before .before .before .before .before .before .before .before .link .given .1 ∙ ap Along (c .before .before .before .before .before .before .before .before .before .before .before .before .before .before .before .link3 .given .1)))
 
 counted-requires : tie.Need-counted-requires Inv-loop μ-loop
-counted-requires c κs = ltb-false _ _ (sym (c .before .before .before .before .is-full .ensures) ∙ c .before .before .before .if5 .left)
+counted-requires c κs =
+    let done : isDone (c .before .before .before .before .before .answered2 .result) ≡ true = sym (c .before .before .before .before .is-done2 .ensures) ∙ not-false _ (c .before .before .before .if2 .left) in
+    ltb-false _ _ (sym (c .before .before .before .before .before .before .before .is-full .ensures) ∙ answered-room _ _ _ _ (c .before .before .before .before .before .answered2 .ensures) done)
 
 write-requires : tie.Need-write-requires Inv-loop μ-loop
 write-requires c κs = search needs
 
 add-i-2 : tie.Need-add-i-2 Inv-loop μ-loop
 add-i-2 c =
-    let l = c .before .before .before .before .before .before .before .before .before .before .before .before .before .before .before .before .before .before .before .before .before .before .before .before .before .before .before .loop-test .taken in
-    let f = c .before .before .before .before .before .before .before .before .before .before .before .before .before .before .before .before .before .before .before .before .before .before .before .before .before .before .before .before .before .before .before .before .before .before .fits .count .fits in
+    let l = c .before .before .before .before .before .before .before .before .before .before .before .before .before .before .before .before .before .before .before .before .before .before .before .before .before .before .loop-test .taken in
+    let f = c .before .before .before .before .before .before .before .before .before .before .before .before .before .before .before .before .before .before .before .before .before .before .before .before .before .before .before .before .before .before .before .before .before .fits .count .fits in
     omega arith
 
 loop-less-2 : tie.Need-loop-less-2 Inv-loop μ-loop
-loop-less-2 c = let t = c .before .before .before .before .before .before .before .before .before .before .before .before .before .before .before .before .before .before .before .before .before .before .before .before .before .before .before .loop-test .taken in omega arith
+loop-less-2 c = let t = c .before .before .before .before .before .before .before .before .before .before .before .before .before .before .before .before .before .before .before .before .before .before .before .before .before .before .loop-test .taken in omega arith
 
 loop-again-2 : tie.Need-loop-again-2 Inv-loop μ-loop
 loop-again-2 c =
-    let a = c .before .before .before .before .before .before .before .before .before .before .before .before .before .before .before .before .before .before .before .before .before .before .before .before .before .before .before .before .before .before .before .before .before .before .args in
-    let l = c .before .before .before .before .before .before .before .before .before .before .before .before .before .before .before .before .before .before .before .before .before .before .before .before .before .before .before .before .loop in
-    let t = c .before .before .before .before .before .before .before .before .before .before .before .before .before .before .before .before .before .before .before .before .before .before .before .before .before .before .before .loop-test .taken in
-    let e = from-gate (a .moves .now) (a .vectors .now) (a .masks .now) (a .tasks) (a .gates) (l .s) (l .log) _ (c .before .before .before .before .before .before .before .before .before .before .before .before .before .before .before .before .before .before .before .before .before .before .before .before .before .before .way-at .result) (c .before .before .before .before .before .before .before .before .before .before .before .before .before .before .before .before .before .before .before .before .before .before .before .before .before .before .way-at .ensures) _ _ (c .before .before .before .before .before .before .before .before .before .before .before .before .before .before .before .before .before .before .before .before .before .before .before .before .link .given .1 ∙ ap Along (c .before .before .before .before .before .before .before .before .before .before .before .before .before .before .before .before .before .before .before .before .before .link3 .given .1)) in
-    let full = sym (c .before .before .before .before .before .before .before .before .before .is-full .ensures) ∙ c .before .before .before .before .before .before .before .before .if5 .left in
-    let h = turn-done (steppedBy (a .moves .now) (a .vectors .now) (a .masks .now) (a .tasks) (a .gates)) (a .file .now) (courseBegun (a .t6) (a .log .now)) (l .s) (l .log) (l .i) (l .inv .2) _ _ (rw (ne-eqb _ _ (c .before .before .before .before .before .before .before .before .before .before .before .before .before .if3 .left), ← c .before .before .before .before .before .before .before .before .before .before .before .before .at-task .ensures, c .before .before .before .before .before .before .before .before .before .before .if4 .left, full) at e) in
-    (omega arith, ap length (c .before .before .write .ensures) ∙ written-length (l .s .logged) (c .before .before .before .before .before .before .before .before .before .before .before .before .at-task .result) (l .log) ∙ l .inv .1, rw (c .before .before .write .ensures, c .before .before .before .before .counted .ensures, c .before .before .before .before .before .empty .ensures) h)
+    let a = c .before .before .before .before .before .before .before .before .before .before .before .before .before .before .before .before .before .before .before .before .before .before .before .before .before .before .before .before .before .before .before .before .before .args in
+    let l = c .before .before .before .before .before .before .before .before .before .before .before .before .before .before .before .before .before .before .before .before .before .before .before .before .before .before .before .loop in
+    let t = c .before .before .before .before .before .before .before .before .before .before .before .before .before .before .before .before .before .before .before .before .before .before .before .before .before .before .loop-test .taken in
+    let e = from-gate (a .moves .now) (a .vectors .now) (a .masks .now) (a .gates) (l .s) (l .log) (a .tasks) _ (c .before .before .before .before .before .before .before .before .before .before .before .before .before .before .before .before .before .before .before .before .before .before .before .before .before .way-at .result) (c .before .before .before .before .before .before .before .before .before .before .before .before .before .before .before .before .before .before .before .before .before .before .before .before .before .way-at .ensures) _ _ (c .before .before .before .before .before .before .before .before .before .before .before .before .before .before .before .before .before .before .before .before .before .before .before .link .given .1 ∙ ap Along (c .before .before .before .before .before .before .before .before .before .before .before .before .before .before .before .before .before .before .before .before .link3 .given .1)) in
+    let done : isDone (c .before .before .before .before .before .before .before .before .before .before .answered2 .result) ≡ true = sym (c .before .before .before .before .before .before .before .before .before .is-done2 .ensures) ∙ not-false _ (c .before .before .before .before .before .before .before .before .if2 .left) in
+    let h = turn-done (steppedBy (a .moves .now) (a .vectors .now) (a .masks .now) (a .tasks) (a .gates)) (a .file .now) (courseBegun (a .t6) (a .log .now)) (l .s) (l .log) (l .i) (l .inv .2) _ _ (rw (← c .before .before .before .before .before .before .before .before .before .before .before .before .before .at-task .ensures, ← c .before .before .before .before .before .before .before .before .before .before .before .before .is-full .ensures, ← c .before .before .before .before .before .before .before .before .before .before .answered2 .ensures, done) at e) in
+    (omega arith, ap length (c .before .before .write .ensures) ∙ written-length (l .s .logged) (c .before .before .before .before .before .before .before .before .before .before .before .before .before .at-task .result) (l .log) ∙ l .inv .1, rw (c .before .before .write .ensures, c .before .before .before .before .counted .ensures, c .before .before .before .before .before .empty .ensures) h)
 
 enum-known-link-4 : tie.Need-enum-known-link-4 Inv-loop μ-loop
 enum-known-link-4 c = search needs
@@ -299,111 +275,90 @@ mul-channel-3 c = omega (arith, link-within _ _ _ _ _ (c .before .before .before
 array-copy-out-channel-2 : tie.Need-array-copy-out-channel-2 Inv-loop μ-loop
 array-copy-out-channel-2 c = omega (arith, link-within _ _ _ _ _ (c .before .before .before .before .before .before .before .before .before .before .before .way-at .ensures) (c .before .before .before .before .before .before .before .before .before .link .given .1 ∙ ap Along (c .before .before .before .before .before .before .link4 .given .1)))
 
-stopped-requires-7 : tie.Need-stopped-requires-7 Inv-loop μ-loop
-stopped-requires-7 c κs = search needs
-
-same-length-7 : tie.Need-same-length-7 Inv-loop μ-loop
-same-length-7 c = c .before .before .before .before .before .before .before .before .before .before .before .before .before .before .before .before .before .loop .inv .1
-
-returns-7 : tie.Need-returns-7 Inv-loop μ-loop
-returns-7 c =
-    let a = c .before .before .before .before .before .before .before .before .before .before .before .before .before .before .before .before .before .before .before .before .before .before .before .args in
-    let l = c .before .before .before .before .before .before .before .before .before .before .before .before .before .before .before .before .before .loop in
-    let e = to-task (a .moves .now) (a .vectors .now) (a .masks .now) (a .tasks) (a .gates) (l .s) (l .log) _ (c .before .before .before .before .before .before .before .before .before .before .before .before .before .before .before .way-at .result) (c .before .before .before .before .before .before .before .before .before .before .before .before .before .before .before .way-at .ensures) _ _ (c .before .before .before .before .before .before .before .before .before .before .before .before .before .link .given .1 ∙ ap Along (c .before .before .before .before .before .before .before .before .before .before .link4 .given .1)) in
-    let h = ends-refused (steppedBy (a .moves .now) (a .vectors .now) (a .masks .now) (a .tasks) (a .gates)) (a .file .now) (courseBegun (a .t6) (a .log .now)) (l .s) (l .log) (l .i) (l .inv .2) ChannelEmpty refl (e ∙ rw (eq-eqb _ _ (c .before .if6 .taken))) (a .count) (c .before .before .before .before .before .before .before .before .before .before .before .before .before .before .before .before .loop-test .taken) in
-    (c .stopped7 .ensures ∙ ap ranOf (sym h), ap (λ (x : Course). x .log) (sym h))
-
 at-task-requires-2 : tie.Need-at-task-requires-2 Inv-loop μ-loop
 at-task-requires-2 c κs = search needs
-
-stopped-requires-8 : tie.Need-stopped-requires-8 Inv-loop μ-loop
-stopped-requires-8 c κs = search needs
-
-same-length-8 : tie.Need-same-length-8 Inv-loop μ-loop
-same-length-8 c = c .before .before .before .before .before .before .before .before .before .before .before .before .before .before .before .before .before .before .before .before .loop .inv .1
-
-returns-8 : tie.Need-returns-8 Inv-loop μ-loop
-returns-8 c =
-    let a = c .before .before .before .before .before .before .before .before .before .before .before .before .before .before .before .before .before .before .before .before .before .before .before .before .before .before .args in
-    let l = c .before .before .before .before .before .before .before .before .before .before .before .before .before .before .before .before .before .before .before .before .loop in
-    let e = to-task (a .moves .now) (a .vectors .now) (a .masks .now) (a .tasks) (a .gates) (l .s) (l .log) _ (c .before .before .before .before .before .before .before .before .before .before .before .before .before .before .before .before .before .before .way-at .result) (c .before .before .before .before .before .before .before .before .before .before .before .before .before .before .before .before .before .before .way-at .ensures) _ _ (c .before .before .before .before .before .before .before .before .before .before .before .before .before .before .before .before .link .given .1 ∙ ap Along (c .before .before .before .before .before .before .before .before .before .before .before .before .before .link4 .given .1)) in
-    let h = ends-refused (steppedBy (a .moves .now) (a .vectors .now) (a .masks .now) (a .tasks) (a .gates)) (a .file .now) (courseBegun (a .t6) (a .log .now)) (l .s) (l .log) (l .i) (l .inv .2) Excluded refl (e ∙ rw (ne-eqb _ _ (c .before .before .before .before .if6 .left), ← c .before .before .before .at-task2 .ensures, c .before .if7 .taken)) (a .count) (c .before .before .before .before .before .before .before .before .before .before .before .before .before .before .before .before .before .before .before .loop-test .taken) in
-    (c .stopped8 .ensures ∙ ap ranOf (sym h), ap (λ (x : Course). x .log) (sym h))
 
 is-full-requires-2 : tie.Need-is-full-requires-2 Inv-loop μ-loop
 is-full-requires-2 c κs = search needs
 
-stopped-requires-9 : tie.Need-stopped-requires-9 Inv-loop μ-loop
-stopped-requires-9 c κs = search needs
+answered-requires-3 : tie.Need-answered-requires-3 Inv-loop μ-loop
+answered-requires-3 c κs = search needs
 
-same-length-9 : tie.Need-same-length-9 Inv-loop μ-loop
-same-length-9 c = c .before .before .before .before .before .before .before .before .before .before .before .before .before .before .before .before .before .before .before .before .before .before .loop .inv .1
+is-done-requires-3 : tie.Need-is-done-requires-3 Inv-loop μ-loop
+is-done-requires-3 c κs = search needs
 
-returns-9 : tie.Need-returns-9 Inv-loop μ-loop
-returns-9 c =
-    let a = c .before .before .before .before .before .before .before .before .before .before .before .before .before .before .before .before .before .before .before .before .before .before .before .before .before .before .before .before .args in
-    let l = c .before .before .before .before .before .before .before .before .before .before .before .before .before .before .before .before .before .before .before .before .before .before .loop in
-    let e = to-task (a .moves .now) (a .vectors .now) (a .masks .now) (a .tasks) (a .gates) (l .s) (l .log) _ (c .before .before .before .before .before .before .before .before .before .before .before .before .before .before .before .before .before .before .before .before .way-at .result) (c .before .before .before .before .before .before .before .before .before .before .before .before .before .before .before .before .before .before .before .before .way-at .ensures) _ _ (c .before .before .before .before .before .before .before .before .before .before .before .before .before .before .before .before .before .before .link .given .1 ∙ ap Along (c .before .before .before .before .before .before .before .before .before .before .before .before .before .before .before .link4 .given .1)) in
-    let full = sym (c .before .before .is-full2 .ensures) ∙ c .before .if8 .taken in
-    let h = ends-refused (steppedBy (a .moves .now) (a .vectors .now) (a .masks .now) (a .tasks) (a .gates)) (a .file .now) (courseBegun (a .t6) (a .log .now)) (l .s) (l .log) (l .i) (l .inv .2) LogFull refl (e ∙ rw (ne-eqb _ _ (c .before .before .before .before .before .before .if6 .left), ← c .before .before .before .before .before .at-task2 .ensures, c .before .before .before .if7 .left, full)) (a .count) (c .before .before .before .before .before .before .before .before .before .before .before .before .before .before .before .before .before .before .before .before .before .loop-test .taken) in
-    (c .stopped9 .ensures ∙ ap ranOf (sym h), ap (λ (x : Course). x .log) (sym h))
+stopped-requires-4 : tie.Need-stopped-requires-4 Inv-loop μ-loop
+stopped-requires-4 c κs = search needs
+
+same-length-4 : tie.Need-same-length-4 Inv-loop μ-loop
+same-length-4 c = c .before .before .before .before .before .before .before .before .before .before .before .before .before .before .before .before .before .before .before .before .before .loop .inv .1
+
+returns-4 : tie.Need-returns-4 Inv-loop μ-loop
+returns-4 c =
+    let a = c .before .before .before .before .before .before .before .before .before .before .before .before .before .before .before .before .before .before .before .before .before .before .before .before .before .before .before .args in
+    let l = c .before .before .before .before .before .before .before .before .before .before .before .before .before .before .before .before .before .before .before .before .before .loop in
+    let e = to-task (a .moves .now) (a .vectors .now) (a .masks .now) (a .gates) (l .s) (l .log) (a .tasks) _ (c .before .before .before .before .before .before .before .before .before .before .before .before .before .before .before .before .before .before .before .way-at .result) (c .before .before .before .before .before .before .before .before .before .before .before .before .before .before .before .before .before .before .before .way-at .ensures) _ _ (c .before .before .before .before .before .before .before .before .before .before .before .before .before .before .before .before .before .link .given .1 ∙ ap Along (c .before .before .before .before .before .before .before .before .before .before .before .before .before .before .link4 .given .1)) in
+    let refused : isDone (c .before .before .before .answered3 .result) ≡ false = sym (c .before .before .is-done3 .ensures) ∙ not-true _ (c .before .if3 .taken) in
+    let h = ends-refused _ _ _ (l .s) (l .log) (l .i) (l .inv .2) (c .before .before .before .answered3 .result) refused (e ∙ rw (← c .before .before .before .before .before .before .at-task2 .ensures, ← c .before .before .before .before .before .is-full2 .ensures, ← c .before .before .before .answered3 .ensures, refused)) (a .count) (c .before .before .before .before .before .before .before .before .before .before .before .before .before .before .before .before .before .before .before .before .loop-test .taken) in
+    (c .stopped4 .ensures ∙ ap ranOf (sym h), ap (λ (x : Course). x .log) (sym h))
 
 empty-requires-2 : tie.Need-empty-requires-2 Inv-loop μ-loop
 empty-requires-2 c κs = search needs
 
 mul-across : tie.Need-mul-across Inv-loop μ-loop
-mul-across c = omega (arith, link-within _ _ _ _ _ (c .before .before .before .before .before .before .before .before .before .before .before .before .before .before .before .before .before .before .before .before .before .before .way-at .ensures) (c .before .before .before .before .before .before .before .before .before .before .before .before .before .before .before .before .before .before .before .before .link .given .1 ∙ ap Along (c .before .before .before .before .before .before .before .before .before .before .before .before .before .before .before .before .before .link4 .given .1)))
+mul-across c = omega (arith, link-within _ _ _ _ _ (c .before .before .before .before .before .before .before .before .before .before .before .before .before .before .before .before .before .before .before .before .before .way-at .ensures) (c .before .before .before .before .before .before .before .before .before .before .before .before .before .before .before .before .before .before .before .link .given .1 ∙ ap Along (c .before .before .before .before .before .before .before .before .before .before .before .before .before .before .before .before .link4 .given .1)))
 
 array-set-from-across : tie.Need-array-set-from-across Inv-loop μ-loop
-array-set-from-across c = omega (arith, link-within _ _ _ _ _ (c .before .before .before .before .before .before .before .before .before .before .before .before .before .before .before .before .before .before .before .before .before .before .way-at .ensures) (c .before .before .before .before .before .before .before .before .before .before .before .before .before .before .before .before .before .before .before .before .link .given .1 ∙ ap Along (c .before .before .before .before .before .before .before .before .before .before .before .before .before .before .before .before .before .link4 .given .1)))
+array-set-from-across c = omega (arith, link-within _ _ _ _ _ (c .before .before .before .before .before .before .before .before .before .before .before .before .before .before .before .before .before .before .before .before .before .way-at .ensures) (c .before .before .before .before .before .before .before .before .before .before .before .before .before .before .before .before .before .before .before .link .given .1 ∙ ap Along (c .before .before .before .before .before .before .before .before .before .before .before .before .before .before .before .before .link4 .given .1)))
 
 with-all-across-requires : tie.Need-with-all-across-requires Inv-loop μ-loop
 with-all-across-requires c κs = search needs
 
 mul-popped-2 : tie.Need-mul-popped-2 Inv-loop μ-loop
-mul-popped-2 c = omega (arith, link-within _ _ _ _ _ (c .before .before .before .before .before .before .before .before .before .before .before .before .before .before .before .before .before .before .before .before .before .before .before .way-at .ensures) (c .before .before .before .before .before .before .before .before .before .before .before .before .before .before .before .before .before .before .before .before .before .link .given .1 ∙ ap Along (c .before .before .before .before .before .before .before .before .before .before .before .before .before .before .before .before .before .before .link4 .given .1)))
+mul-popped-2 c = omega (arith, link-within _ _ _ _ _ (c .before .before .before .before .before .before .before .before .before .before .before .before .before .before .before .before .before .before .before .before .before .before .way-at .ensures) (c .before .before .before .before .before .before .before .before .before .before .before .before .before .before .before .before .before .before .before .before .link .given .1 ∙ ap Along (c .before .before .before .before .before .before .before .before .before .before .before .before .before .before .before .before .before .link4 .given .1)))
 
 element-set-from-popped-2 : tie.Need-element-set-from-popped-2 Inv-loop μ-loop
-element-set-from-popped-2 c = omega (arith, link-within _ _ _ _ _ (c .before .before .before .before .before .before .before .before .before .before .before .before .before .before .before .before .before .before .before .before .before .before .before .way-at .ensures) (c .before .before .before .before .before .before .before .before .before .before .before .before .before .before .before .before .before .before .before .before .before .link .given .1 ∙ ap Along (c .before .before .before .before .before .before .before .before .before .before .before .before .before .before .before .before .before .before .link4 .given .1)))
+element-set-from-popped-2 c = omega (arith, link-within _ _ _ _ _ (c .before .before .before .before .before .before .before .before .before .before .before .before .before .before .before .before .before .before .before .before .before .before .way-at .ensures) (c .before .before .before .before .before .before .before .before .before .before .before .before .before .before .before .before .before .before .before .before .link .given .1 ∙ ap Along (c .before .before .before .before .before .before .before .before .before .before .before .before .before .before .before .before .before .link4 .given .1)))
 
 mul-task-2 : tie.Need-mul-task-2 Inv-loop μ-loop
-mul-task-2 c = omega (arith, link-within _ _ _ _ _ (c .before .before .before .before .before .before .before .before .before .before .before .before .before .before .before .before .before .before .before .before .before .before .before .way-at .ensures) (c .before .before .before .before .before .before .before .before .before .before .before .before .before .before .before .before .before .before .before .before .before .link .given .1 ∙ ap Along (c .before .before .before .before .before .before .before .before .before .before .before .before .before .before .before .before .before .before .link4 .given .1)))
+mul-task-2 c = omega (arith, link-within _ _ _ _ _ (c .before .before .before .before .before .before .before .before .before .before .before .before .before .before .before .before .before .before .before .before .before .before .way-at .ensures) (c .before .before .before .before .before .before .before .before .before .before .before .before .before .before .before .before .before .before .before .before .link .given .1 ∙ ap Along (c .before .before .before .before .before .before .before .before .before .before .before .before .before .before .before .before .before .link4 .given .1)))
 
 element-set-from-task-2 : tie.Need-element-set-from-task-2 Inv-loop μ-loop
-element-set-from-task-2 c = omega (arith, link-within _ _ _ _ _ (c .before .before .before .before .before .before .before .before .before .before .before .before .before .before .before .before .before .before .before .before .before .before .before .way-at .ensures) (c .before .before .before .before .before .before .before .before .before .before .before .before .before .before .before .before .before .before .before .before .before .link .given .1 ∙ ap Along (c .before .before .before .before .before .before .before .before .before .before .before .before .before .before .before .before .before .before .link4 .given .1)))
+element-set-from-task-2 c = omega (arith, link-within _ _ _ _ _ (c .before .before .before .before .before .before .before .before .before .before .before .before .before .before .before .before .before .before .before .before .before .before .way-at .ensures) (c .before .before .before .before .before .before .before .before .before .before .before .before .before .before .before .before .before .before .before .before .link .given .1 ∙ ap Along (c .before .before .before .before .before .before .before .before .before .before .before .before .before .before .before .before .before .link4 .given .1)))
 
 counted-requires-2 : tie.Need-counted-requires-2 Inv-loop μ-loop
-counted-requires-2 c κs = ltb-false _ _ (sym (c .before .before .before .before .before .is-full2 .ensures) ∙ c .before .before .before .before .if8 .left)
+counted-requires-2 c κs =
+    let done : isDone (c .before .before .before .before .before .before .answered3 .result) ≡ true = sym (c .before .before .before .before .before .is-done3 .ensures) ∙ not-false _ (c .before .before .before .before .if3 .left) in
+    ltb-false _ _ (sym (c .before .before .before .before .before .before .before .before .is-full2 .ensures) ∙ answered-room _ _ _ _ (c .before .before .before .before .before .before .answered3 .ensures) done)
 
 write-requires-2 : tie.Need-write-requires-2 Inv-loop μ-loop
 write-requires-2 c κs = search needs
 
 add-i-3 : tie.Need-add-i-3 Inv-loop μ-loop
 add-i-3 c =
-    let l = c .before .before .before .before .before .before .before .before .before .before .before .before .before .before .before .before .before .before .before .before .before .before .before .before .before .before .before .before .before .loop-test .taken in
-    let f = c .before .before .before .before .before .before .before .before .before .before .before .before .before .before .before .before .before .before .before .before .before .before .before .before .before .before .before .before .before .before .before .before .before .before .before .before .fits .count .fits in
+    let l = c .before .before .before .before .before .before .before .before .before .before .before .before .before .before .before .before .before .before .before .before .before .before .before .before .before .before .before .before .loop-test .taken in
+    let f = c .before .before .before .before .before .before .before .before .before .before .before .before .before .before .before .before .before .before .before .before .before .before .before .before .before .before .before .before .before .before .before .before .before .before .before .fits .count .fits in
     omega arith
 
 loop-less-3 : tie.Need-loop-less-3 Inv-loop μ-loop
-loop-less-3 c = let t = c .before .before .before .before .before .before .before .before .before .before .before .before .before .before .before .before .before .before .before .before .before .before .before .before .before .before .before .before .before .loop-test .taken in omega arith
+loop-less-3 c = let t = c .before .before .before .before .before .before .before .before .before .before .before .before .before .before .before .before .before .before .before .before .before .before .before .before .before .before .before .before .loop-test .taken in omega arith
 
 loop-again-3 : tie.Need-loop-again-3 Inv-loop μ-loop
 loop-again-3 c =
-    let a = c .before .before .before .before .before .before .before .before .before .before .before .before .before .before .before .before .before .before .before .before .before .before .before .before .before .before .before .before .before .before .before .before .before .before .before .before .args in
-    let l = c .before .before .before .before .before .before .before .before .before .before .before .before .before .before .before .before .before .before .before .before .before .before .before .before .before .before .before .before .before .before .loop in
-    let t = c .before .before .before .before .before .before .before .before .before .before .before .before .before .before .before .before .before .before .before .before .before .before .before .before .before .before .before .before .before .loop-test .taken in
-    let e = to-task (a .moves .now) (a .vectors .now) (a .masks .now) (a .tasks) (a .gates) (l .s) (l .log) _ (c .before .before .before .before .before .before .before .before .before .before .before .before .before .before .before .before .before .before .before .before .before .before .before .before .before .before .before .before .way-at .result) (c .before .before .before .before .before .before .before .before .before .before .before .before .before .before .before .before .before .before .before .before .before .before .before .before .before .before .before .before .way-at .ensures) _ _ (c .before .before .before .before .before .before .before .before .before .before .before .before .before .before .before .before .before .before .before .before .before .before .before .before .before .before .link .given .1 ∙ ap Along (c .before .before .before .before .before .before .before .before .before .before .before .before .before .before .before .before .before .before .before .before .before .before .before .link4 .given .1)) in
-    let full = sym (c .before .before .before .before .before .before .before .before .before .before .is-full2 .ensures) ∙ c .before .before .before .before .before .before .before .before .before .if8 .left in
-    let h = turn-done (steppedBy (a .moves .now) (a .vectors .now) (a .masks .now) (a .tasks) (a .gates)) (a .file .now) (courseBegun (a .t6) (a .log .now)) (l .s) (l .log) (l .i) (l .inv .2) _ _ (rw (ne-eqb _ _ (c .before .before .before .before .before .before .before .before .before .before .before .before .before .before .if6 .left), ← c .before .before .before .before .before .before .before .before .before .before .before .before .before .at-task2 .ensures, c .before .before .before .before .before .before .before .before .before .before .before .if7 .left, full) at e) in
-    (omega arith, ap length (c .before .before .write2 .ensures) ∙ written-length (l .s .logged) (c .before .before .before .before .before .before .before .before .before .before .before .before .before .at-task2 .result) (l .log) ∙ l .inv .1, rw (c .before .before .write2 .ensures, c .before .before .before .before .counted2 .ensures, c .before .before .before .before .before .with-all-across .ensures, c .before .before .before .before .before .before .empty2 .ensures) h)
+    let a = c .before .before .before .before .before .before .before .before .before .before .before .before .before .before .before .before .before .before .before .before .before .before .before .before .before .before .before .before .before .before .before .before .before .before .before .args in
+    let l = c .before .before .before .before .before .before .before .before .before .before .before .before .before .before .before .before .before .before .before .before .before .before .before .before .before .before .before .before .before .loop in
+    let t = c .before .before .before .before .before .before .before .before .before .before .before .before .before .before .before .before .before .before .before .before .before .before .before .before .before .before .before .before .loop-test .taken in
+    let e = to-task (a .moves .now) (a .vectors .now) (a .masks .now) (a .gates) (l .s) (l .log) (a .tasks) _ (c .before .before .before .before .before .before .before .before .before .before .before .before .before .before .before .before .before .before .before .before .before .before .before .before .before .before .before .way-at .result) (c .before .before .before .before .before .before .before .before .before .before .before .before .before .before .before .before .before .before .before .before .before .before .before .before .before .before .before .way-at .ensures) _ _ (c .before .before .before .before .before .before .before .before .before .before .before .before .before .before .before .before .before .before .before .before .before .before .before .before .before .link .given .1 ∙ ap Along (c .before .before .before .before .before .before .before .before .before .before .before .before .before .before .before .before .before .before .before .before .before .before .link4 .given .1)) in
+    let done : isDone (c .before .before .before .before .before .before .before .before .before .before .before .answered3 .result) ≡ true = sym (c .before .before .before .before .before .before .before .before .before .before .is-done3 .ensures) ∙ not-false _ (c .before .before .before .before .before .before .before .before .before .if3 .left) in
+    let h = turn-done (steppedBy (a .moves .now) (a .vectors .now) (a .masks .now) (a .tasks) (a .gates)) (a .file .now) (courseBegun (a .t6) (a .log .now)) (l .s) (l .log) (l .i) (l .inv .2) _ _ (rw (← c .before .before .before .before .before .before .before .before .before .before .before .before .before .before .at-task2 .ensures, ← c .before .before .before .before .before .before .before .before .before .before .before .before .before .is-full2 .ensures, ← c .before .before .before .before .before .before .before .before .before .before .before .answered3 .ensures, done) at e) in
+    (omega arith, ap length (c .before .before .write2 .ensures) ∙ written-length (l .s .logged) (c .before .before .before .before .before .before .before .before .before .before .before .before .before .before .at-task2 .result) (l .log) ∙ l .inv .1, rw (c .before .before .write2 .ensures, c .before .before .before .before .counted2 .ensures, c .before .before .before .before .before .with-all-across .ensures, c .before .before .before .before .before .before .empty2 .ensures) h)
 
-same-length-10 : tie.Need-same-length-10 Inv-loop μ-loop
-same-length-10 c = search needs
+same-length-5 : tie.Need-same-length-5 Inv-loop μ-loop
+same-length-5 c = c .before .loop .inv .1
 
-returns-10 : tie.Need-returns-10 Inv-loop μ-loop
+returns-5 : tie.Need-returns-5 Inv-loop μ-loop
 unfolding course
-returns-10 c =
-    let e : c .before .loop .i ≡ c .before .before .before .before .before .before .before .args .count = omega arith in
+returns-5 c = let e : c .before .loop .i ≡ c .before .before .before .before .before .before .before .args .count = omega arith in
     let h = rw e at (c .before .loop .inv .2) in
     (ap ranOf (sym h), ap (λ (x : Course). x .log) (sym h))
 
@@ -429,14 +384,13 @@ run-spec =
     element-copy-out-receiver
     mul-channel
     array-copy-out-channel
+    byte-requires
+    at-gate-requires
+    answered-requires
+    is-done-requires
     stopped-requires-2
     same-length-2
     returns-2
-    byte-requires
-    at-gate-requires
-    stopped-requires-3
-    same-length-3
-    returns-3
     popped-requires
     mul-up
     array-set-from-up
@@ -457,21 +411,17 @@ run-spec =
     element-copy-out-receiver-2
     mul-channel-2
     element-copy-out-channel
-    stopped-requires-4
-    same-length-4
-    returns-4
     at-task-requires
-    stopped-requires-5
-    same-length-5
-    returns-5
     is-full-requires
-    stopped-requires-6
-    same-length-6
-    returns-6
+    answered-requires-2
+    is-done-requires-2
+    stopped-requires-3
+    same-length-3
+    returns-3
     empty-requires
-    mul-t78
+    mul-t81
     element-set-from-sender
-    mul-t78-2
+    mul-t81-2
     element-set-from-s
     mul-task
     element-set-from-task
@@ -489,17 +439,13 @@ run-spec =
     element-copy-out-receiver-3
     mul-channel-3
     array-copy-out-channel-2
-    stopped-requires-7
-    same-length-7
-    returns-7
     at-task-requires-2
-    stopped-requires-8
-    same-length-8
-    returns-8
     is-full-requires-2
-    stopped-requires-9
-    same-length-9
-    returns-9
+    answered-requires-3
+    is-done-requires-3
+    stopped-requires-4
+    same-length-4
+    returns-4
     empty-requires-2
     mul-across
     array-set-from-across
@@ -513,5 +459,5 @@ run-spec =
     add-i-3
     loop-less-3
     loop-again-3
-    same-length-10
-    returns-10)
+    same-length-5
+    returns-5)
