@@ -6,7 +6,7 @@ ghost use Rattle.schedule.specs.Schedules.{scheduleOf};
 ghost use Rattle.soundness.specs.Sound.{soundTable};
 ghost use Rattle.fresh.specs.Fresh.{fresh};
 ghost use Rattle.run.specs.Run.{courseBegun, course, deliveredBy};
-ghost use Rattle.text.specs.Text.{Text, typed};
+ghost use Rattle.text.specs.Text.{typed};
 ghost use Rattle.printed.specs.Printed.{ofCourse, ofSchedule, printed};
 
 // Typed into a buffer from its start on. Gives back how many bytes are typed; the log is as the last

@@ -7,7 +7,7 @@ use lib.Dec.{eqb, ltb}
 use lib.ListN.{getD, length}
 use Rattle.answers.specs.Answers.{isDone}
 use Rattle.answers.specs.declared.Answer.{Answer}
-use Rattle.answers.specs.declared.Answer.the-variants.{Done, NoChannel, ChannelEmpty, LogFull, Excluded}
+use Rattle.answers.specs.declared.Answer.the-variants.{Done, NoChannel, LogFull, Excluded}
 use Rattle.numbers.specs.declared.GateNo.{GateNo}
 use Rattle.numbers.specs.declared.TaskNo.{TaskNo}
 use Rattle.channels.specs.declared.Channel1.{Channel1}

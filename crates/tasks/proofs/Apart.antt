@@ -3,14 +3,12 @@ use Prim.Native.Nat.{ℕ, suc, zero}
 use mathlib.Core.Bool.{Bool, true, false, cond, _&&_, not}
 use mathlib.Core.List.{List}
 use mathlib.Core.Path.{_≡_, refl, ap, _∙_}
-use lib.Dec.{ltb}
 use lib.ListN.{getD}
 use Rattle.laws.specs.Turns.{upTo}
 use Rattle.table.specs.Tables.{readyOf}
 use Rattle.channels.specs.Channels.{empty3, endsReady}
-use Rattle.channels.specs.declared.Message.the-variants.{Ready}
 use Rattle.state.specs.States.{withAllUp}
-use Rattle.tasks.specs.Tasks.{with, sentUp, announcedAt, announced}
+use Rattle.tasks.specs.Tasks.{with, announcedAt, announced}
 use Rattle.tasks.specs.Parts.{announcedUpAt, announcedUp}
 use Rattle.tasks.specs.declared.Outgoing.{Outgoing}
 use Rattle.tasks.specs.declared.Work.{Work}

@@ -10,7 +10,7 @@ use state::Task;
 use table::Move;
 ghost use mathlib.Core.Bool.{_&&_, not};
 ghost use mathlib.Core.Path.{_≡_};
-ghost use Prim.Native.Nat.{_+_, _≤_, _<_};
+ghost use Prim.Native.Nat.{_+_, _<_};
 ghost use Rattle.channels.specs.Channels.{endsReady};
 ghost use Rattle.table.specs.Tables.{readyOf};
 ghost use Rattle.tasks.specs.Parts.{announcedUp, waits, handledBy};
