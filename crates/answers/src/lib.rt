@@ -1,8 +1,10 @@
 // The numbers given back, as one enum: a case for each row of the paper's table of numbers.
+#![tactic(auto)]
+
 ghost use Rattle.std.specs.Prelude.{◌≡◌};
 ghost use Rattle.answers.specs.Answers.{number_of, is_done};
 
-#[derive(Drop)]
+#[derive(Clone, Copy)]
 pub enum Answer {
     Done,
     CutOff,

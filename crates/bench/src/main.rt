@@ -3,6 +3,8 @@
 // and the two files; and as often again. bench/main.c does the same in C. A round starts the line fresh and, in mode 1,
 // makes the deliveries of the schedule without asking number 11 again; in mode 2 it asks number 11 in each. In mode 0 it
 // makes none, which is what the others have in common.
+#![tactic(auto)]
+
 mod rounds;
 
 ghost use Rattle.std.specs.Prelude.{◌≤◌, length};

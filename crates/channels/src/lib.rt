@@ -1,18 +1,20 @@
 // Messages, and the first-in first-out channels that hold them. Unused room holds READY, so taking
 // a message writes it back.
+#![tactic(auto)]
+
 ghost use Rattle.std.specs.Prelude.{◌≡◌, ◌-◌};
 ghost use Rattle.channels.specs.Channels.{no_request, is_ready, empty1, empty3, popped3, put1, put3, ends_ready};
 
 use numbers::GateNo;
 
 // What a LOCK asks for.
-#[derive(Drop)]
+#[derive(Clone, Copy)]
 pub struct Request {
     pub gate: GateNo,
     pub vector: u8,
 }
 
-#[derive(Drop)]
+#[derive(Clone, Copy)]
 pub enum Message {
     Ready,
     Lock(Request),
@@ -21,14 +23,14 @@ pub enum Message {
 }
 
 // From a gate to a task and from a task to a task there is room for one message.
-#[derive(Drop)]
+#[derive(Clone, Copy)]
 pub struct Channel1 {
     pub count: u8,
     pub first: Message,
 }
 
 // From a task to a gate there is room for three. The first is the oldest.
-#[derive(Drop)]
+#[derive(Clone, Copy)]
 pub struct Channel3 {
     pub count: u8,
     pub first: Message,

@@ -1,4 +1,6 @@
 // A delivery: the oldest message of a channel is taken, and its receiver handles it.
+#![tactic(auto)]
+
 ghost use Rattle.std.specs.Prelude.{◌≡◌, ◌+◌, ◌/◌, ◌≤◌, ◌<◌, get_or, set, length};
 ghost use Rattle.channels.specs.Channels.{no_request};
 ghost use Rattle.delivery.specs.Delivery.{entered_in_log, written, settled_at_task, way_of, delivered_at_gate, delivered_at_task, along, result, sound_for, delivered};
@@ -12,14 +14,14 @@ use state::{Front, Link, State};
 use table::Table;
 use tasks::Work;
 
-#[derive(Drop)]
+#[derive(Clone, Copy)]
 pub struct Delivered {
     pub state: State,
     pub answer: Answer,
 }
 
 // The channel between two endpoints, if there is one.
-#[derive(Drop)]
+#[derive(Clone, Copy)]
 pub enum Way {
     Nowhere,
     Along(Link),

@@ -1,5 +1,7 @@
 // Program desk: reads table.bin and sched.bin in the folder that it is run in, and prints what comes of
 // them. A file that can't be opened counts as empty.
+#![tactic(auto)]
+
 ghost use Rattle.io.specs.Counts.{IsPrefixLen};
 
 const TABLE: usize = 40000;

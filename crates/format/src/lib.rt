@@ -1,4 +1,6 @@
 // The house format: records of a body length, a kind and a body, little-endian.
+#![tactic(auto)]
+
 ghost use Rattle.std.specs.Prelude.{◌≡◌, ◌-◌, length};
 ghost use Rattle.format.specs.Format.{body_length_of, word_at, kind_at, size_at, head_fault};
 

@@ -1,4 +1,6 @@
 // The state that a line starts with.
+#![tactic(auto)]
+
 ghost use Rattle.std.specs.Prelude.{◌≡◌};
 ghost use Rattle.fresh.specs.Fresh.{fresh};
 ghost use Rattle.fresh.specs.Parts.{started};
@@ -9,7 +11,7 @@ use state::{State, Task};
 use table::Table;
 use tasks::Outgoing;
 
-#[derive(Drop)]
+#[derive(Clone, Copy)]
 pub struct Started {
     pub state: State,
     pub answer: Answer,

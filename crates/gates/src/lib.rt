@@ -1,4 +1,6 @@
 // What a message from a task does at a gate.
+#![tactic(auto)]
+
 ghost use Rattle.std.specs.Prelude.{◌≡◌};
 ghost use Rattle.gates.specs.Gates.{offering, sent_down, fitting, searched_by, at_gate};
 ghost use Rattle.gates.specs.Parts.{dealt_mask, ended_with};
@@ -9,7 +11,7 @@ use sets::Found;
 use state::{Deal, Gate};
 
 // The work of one delivery on its receiver: the gate so far, and whether all of it is allowed.
-#[derive(Drop)]
+#[derive(Clone, Copy)]
 pub struct Work {
     pub gate: Gate,
     pub ok: bool,

@@ -1,4 +1,6 @@
 // The library that other programs link: what program desk prints, for a table and a schedule in memory.
+#![tactic(auto)]
+
 ghost use Rattle.std.specs.Prelude.{◌≡◌, ltb};
 ghost use Rattle.room.specs.Rooms.{room_for};
 ghost use Rattle.hunavosk.specs.Calls.{called};

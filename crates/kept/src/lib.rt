@@ -2,3 +2,4 @@
 // that one which is refused changes nothing; proofs/Log.antt, that only the bytes of the entries written change;
 // proofs/Entries.antt, that those name gates below 16 and vectors below 8; proofs/Fresh.antt, that the fresh state of a
 // sound table is sound.
+#![tactic(auto)]

@@ -1,15 +1,17 @@
 // A task's number and a gate's number are types of their own, so that neither goes in the other's place.
+#![tactic(auto)]
+
 ghost use Rattle.std.specs.Prelude.{◌≡◌};
 ghost use Rattle.numbers.specs.Endpoints.{endpoint_of};
 
-#[derive(Drop)]
+#[derive(Clone, Copy)]
 pub struct TaskNo(pub u8);
 
-#[derive(Drop)]
+#[derive(Clone, Copy)]
 pub struct GateNo(pub u8);
 
 // Who stands at an end of a channel.
-#[derive(Drop)]
+#[derive(Clone, Copy)]
 pub enum Endpoint {
     Nobody,
     Task(TaskNo),

@@ -2,6 +2,8 @@
 // file, that of a schedule file and that of a log, of four bytes each, and the two files. First comes what
 // program desk prints for the files. Where both are accepted the line is then run once more, over all deliveries,
 // refused ones among them, with a log of that length, and all that can be seen of it is printed.
+#![tactic(auto)]
+
 mod shown;
 
 ghost use Rattle.io.specs.Counts.{IsPrefixLen};
@@ -136,7 +138,7 @@ fn seen<'a>(
 }
 
 // The line after a run, and where its text ends.
-#[derive(Drop)]
+#[derive(Clone, Copy)]
 struct Ran {
     state: State,
     end: usize,

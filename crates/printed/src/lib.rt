@@ -1,4 +1,6 @@
 // What program desk prints for the bytes of its two files.
+#![tactic(auto)]
+
 ghost use Rattle.std.specs.Prelude.{true, ◌≡◌};
 ghost use Rattle.schedule.specs.Schedules.{schedule_of};
 ghost use Rattle.soundness.specs.Sound.{sound_table};

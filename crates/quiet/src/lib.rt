@@ -1,4 +1,6 @@
 // Whether nothing is undelivered.
+#![tactic(auto)]
+
 ghost use Rattle.std.specs.Prelude.{◌≡◌};
 ghost use Rattle.quiet.specs.Quiet.{quiet};
 ghost use Rattle.quiet.specs.Parts.{threes_quiet, ones_quiet};

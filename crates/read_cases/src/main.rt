@@ -2,6 +2,8 @@
 // line for each. A case is a tag (T a table, S a schedule), the length of its name, the name, the length
 // of the file to be read and that of the unit, of four bytes each, and the unit. The file is the unit,
 // repeated and cut to its length. tools/make_read_cases.py writes the cases and the lines expected.
+#![tactic(auto)]
+
 ghost use Rattle.std.specs.Prelude.{◌≤◌, length};
 ghost use Rattle.io.specs.Counts.{IsPrefixLen};
 

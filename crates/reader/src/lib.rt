@@ -1,4 +1,6 @@
 // Reading a table file: each record is checked in the paper's order, and the first fault ends the reading.
+#![tactic(auto)]
+
 ghost use Rattle.std.specs.Prelude.{◌≡◌};
 ghost use Rattle.reader.specs.Parts.{loading, none_came};
 ghost use Rattle.reader.specs.Rules.{kind_fault, in_range, is_ninth, in_order, field_fault, with_record, after_record};
@@ -11,7 +13,7 @@ use table::Table;
 
 // What the order of the records asks of those that have come: the last one's kind (0 before the
 // first), how many tasks, the lowest cell left for a transition, and the last vector's gate.
-#[derive(Drop)]
+#[derive(Clone, Copy)]
 pub struct Progress {
     pub kind: u16,
     pub came: u16,
@@ -21,7 +23,7 @@ pub struct Progress {
 
 // What comes back: the table and where the reading ended, or the empty table and the refused
 // record's place.
-#[derive(Drop)]
+#[derive(Clone, Copy)]
 pub struct Loaded {
     pub table: Table,
     pub answer: Answer,

@@ -1,4 +1,6 @@
 // Reads of lent lists of numbers that need no range: past the end stands 0.
+#![tactic(auto)]
+
 ghost use Rattle.std.specs.Prelude.{◌≡◌, get_or};
 ghost use Rattle.reads.specs.Numbers.{four_of};
 

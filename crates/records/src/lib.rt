@@ -1,10 +1,12 @@
 // What a record of a table file says.
+#![tactic(auto)]
+
 ghost use Rattle.std.specs.Prelude.{◌≡◌};
 ghost use Rattle.records.specs.Records.{record_at};
 
 use numbers::{GateNo, TaskNo};
 
-#[derive(Drop)]
+#[derive(Clone, Copy)]
 pub enum Record {
     // tasks, gates
     System(u8, u8),

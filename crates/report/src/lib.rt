@@ -1,4 +1,6 @@
 // The lines that program desk prints, typed into a lent buffer.
+#![tactic(auto)]
+
 ghost use Rattle.std.specs.Prelude.{◌+◌, ◌*◌, ◌≡◌, get_or};
 ghost use Rattle.state.specs.States.{task_of};
 ghost use Rattle.text.specs.Text.{typed};

@@ -1,4 +1,6 @@
 // A run of deliveries until the first refusal.
+#![tactic(auto)]
+
 ghost use Rattle.std.specs.Prelude.{◌≡◌, ◌+◌, ◌-◌, ◌/◌, ◌≤◌, ltb};
 ghost use Rattle.schedule.specs.Schedules.{delivery_of};
 ghost use Rattle.run.specs.Parts.{way_by, answered, stopped};
@@ -10,7 +12,7 @@ use delivery::Way;
 use state::{Link, State};
 
 // The state after the run, the last answer, and how many deliveries were done.
-#[derive(Drop)]
+#[derive(Clone, Copy)]
 pub struct Ran {
     pub state: State,
     pub answer: Answer,

@@ -1,11 +1,13 @@
 // Reading a schedule file: the deliveries to be made, in order. Endpoints are not judged here.
+#![tactic(auto)]
+
 ghost use Rattle.std.specs.Prelude.{◌≡◌};
 ghost use Rattle.schedule.specs.Schedules.{fault_at, refused_of, ended_of, schedule_of, delivery_of};
 
 use answers::Answer;
 
 // How many deliveries there are and where the reading ended, or none and the refused record's place.
-#[derive(Drop)]
+#[derive(Clone, Copy)]
 pub struct Schedule {
     pub answer: Answer,
     pub place: usize,
@@ -13,7 +15,7 @@ pub struct Schedule {
 }
 
 // A delivery's two endpoints.
-#[derive(Drop)]
+#[derive(Clone, Copy)]
 pub struct Delivery {
     pub from: u8,
     pub to: u8,

@@ -1,4 +1,6 @@
 // A set of tasks is a mask of 16 bits: bit t is task t.
+#![tactic(auto)]
+
 ghost use Rattle.std.specs.Prelude.{◌≡◌, ◌≤◌, ◌-◌};
 ghost use Rattle.sets.specs.Sets.{member_of, subset_of, all_below_of, union_of, minus_of, with_of, without_of, lowest_of, next_above_of, alone_of, found_of};
 ghost use Rattle.sets.specs.Highest.{highest_of};
@@ -7,7 +9,7 @@ ghost use Rattle.laws.specs.Below.{first_from};
 use numbers::TaskNo;
 
 // A task that was looked for in a set.
-#[derive(Drop)]
+#[derive(Clone, Copy)]
 pub enum Found {
     Nobody,
     Task(TaskNo),

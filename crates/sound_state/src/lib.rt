@@ -1,6 +1,8 @@
 // Whether a state keeps the rules that number 11 asks of it: a function for each. There is no early
 // exit, so that places are compared side by side. A whole list of places is first looked at for what
 // most hold, which is nothing, and only another is gone through with the table.
+#![tactic(auto)]
+
 ghost use Rattle.std.specs.Prelude.{◌≡◌};
 ghost use Rattle.sound_state.specs.Quiet.{none_waits, is_empty, is_silent, is_ready_only, all_ready};
 ghost use Rattle.sound_state.specs.SoundState.{is_somebody, is_no_request, names, mode_sound, up_fits, up_sound, across_fits, down_fits, deal_sound, task_sound, gate_sound, sound_state};

@@ -1,4 +1,6 @@
 // Whether a table keeps the rules of the format: what number 11 asks of it. Each array is passed over once.
+#![tactic(auto)]
+
 ghost use Rattle.std.specs.Prelude.{cond, ◌≡◌, ℕ, ◌+◌, ◌*◌, ◌<◌, ltb, leb, get_or, replicate};
 ghost use Rattle.laws.specs.Below.{all_below};
 ghost use Rattle.table.specs.Tables.{cell_of};

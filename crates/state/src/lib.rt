@@ -1,5 +1,7 @@
 // The state of the line: tasks, gates and the count of log entries. A channel lies with its sender:
 // each party owns what it has sent, and a delivery moves two parties.
+#![tactic(auto)]
+
 ghost use Rattle.std.specs.Prelude.{◌≡◌};
 ghost use Rattle.state.specs.States.{empty_task, empty_gate, empty_state, at_state, with_mode, with_all_up, with_all_across, with_last, without_front};
 ghost use Rattle.state.specs.States.{front_of, pop_up, put_up, pop_across, put_across, pop_down, put_down, pop_of};
@@ -8,7 +10,7 @@ ghost use Rattle.state.specs.Parts.{moved_up, put_of};
 use channels::{Channel1, Channel3, Message, Request};
 use numbers::{GateNo, TaskNo};
 
-#[derive(Drop)]
+#[derive(Clone, Copy)]
 pub enum Mode {
     Free,
     Held(Request),
@@ -16,7 +18,7 @@ pub enum Mode {
 
 // The first `count` of `waiting` are the lock requests that wait, the front first. What the task has
 // sent lies in `up` for each gate and in `across` for each task.
-#[derive(Drop)]
+#[derive(Clone, Copy)]
 pub struct Task {
     pub state: u8,
     pub mode: Mode,
@@ -26,21 +28,21 @@ pub struct Task {
     pub across: [Channel1; 16],
 }
 
-#[derive(Drop)]
+#[derive(Clone, Copy)]
 pub enum Deal {
     Idle,
     Dealing(u8),
 }
 
 // What the gate has sent lies in `down` for each task.
-#[derive(Drop)]
+#[derive(Clone, Copy)]
 pub struct Gate {
     pub offers: u16,
     pub deal: Deal,
     pub down: [Channel1; 16],
 }
 
-#[derive(Drop)]
+#[derive(Clone, Copy)]
 pub struct State {
     pub tasks: [Task; 16],
     pub gates: [Gate; 16],
@@ -48,51 +50,51 @@ pub struct State {
 }
 
 // An ordered pair that has a channel.
-#[derive(Drop)]
+#[derive(Clone, Copy)]
 pub enum Link {
     ToGate(TaskNo, GateNo),
     FromGate(GateNo, TaskNo),
     ToTask(TaskNo, TaskNo),
 }
 
-#[derive(Drop)]
+#[derive(Clone, Copy)]
 pub enum Front {
     Nothing,
     Oldest(Message),
 }
 
 // A task, a gate and the state after a pop and after a put.
-#[derive(Drop)]
+#[derive(Clone, Copy)]
 pub struct PoppedTask {
     pub task: Task,
     pub front: Front,
 }
 
-#[derive(Drop)]
+#[derive(Clone, Copy)]
 pub struct PoppedGate {
     pub gate: Gate,
     pub front: Front,
 }
 
-#[derive(Drop)]
+#[derive(Clone, Copy)]
 pub struct Popped {
     pub state: State,
     pub front: Front,
 }
 
-#[derive(Drop)]
+#[derive(Clone, Copy)]
 pub struct PutTask {
     pub task: Task,
     pub room: bool,
 }
 
-#[derive(Drop)]
+#[derive(Clone, Copy)]
 pub struct PutGate {
     pub gate: Gate,
     pub room: bool,
 }
 
-#[derive(Drop)]
+#[derive(Clone, Copy)]
 pub struct Put {
     pub state: State,
     pub room: bool,

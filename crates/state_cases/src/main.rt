@@ -4,6 +4,8 @@
 // Then come the name, the file, the deliveries of two bytes each and the edits of 16. The line starts fresh by
 // that table and has had those deliveries; then the edits set parts of its state and table by hand.
 // tools/make_state_cases.py writes the cases and the lines expected.
+#![tactic(auto)]
+
 mod edits;
 mod same;
 

@@ -1,4 +1,6 @@
 // The table of tasks, gates and synchronization vectors.
+#![tactic(auto)]
+
 ghost use Rattle.std.specs.Prelude.{◌≡◌};
 ghost use Rattle.table.specs.Tables.{empty_table, with_counts, with_states, with_move, with_vector, count_in, is_cell, cell_of, move_of, ready_of, mask_of, new_below};
 
@@ -7,7 +9,7 @@ use numbers::{GateNo, TaskNo};
 // Unused room is 0 throughout. Of the transitions, `moves` has a cell for each task, state and gate:
 // 0 where there is none, else one more than the state that it leads to. Of the vectors, `masks` has
 // eight places a gate, of which the first `vectors` are in use.
-#[derive(Drop)]
+#[derive(Clone, Copy)]
 pub struct Table {
     pub tasks: u8,
     pub gates: u8,
@@ -19,7 +21,7 @@ pub struct Table {
 }
 
 // Where a task goes at a gate.
-#[derive(Drop)]
+#[derive(Clone, Copy)]
 pub enum Move {
     Nowhere,
     To(u8),

@@ -1,4 +1,6 @@
 // What a message does at a task.
+#![tactic(auto)]
+
 ghost use Rattle.std.specs.Prelude.{◌&&◌, not, ◌≡◌, ◌+◌, ◌<◌};
 ghost use Rattle.channels.specs.Channels.{ends_ready};
 ghost use Rattle.table.specs.Tables.{ready_of};
@@ -13,7 +15,7 @@ use table::Move;
 
 // The work of one delivery on its receiver: the task so far, whether all of it is allowed, and the
 // log entries of it.
-#[derive(Drop)]
+#[derive(Clone, Copy)]
 pub struct Work {
     pub task: Task,
     pub ok: bool,
@@ -125,7 +127,7 @@ fn sent_below(number: TaskNo, mask: u16, message: Message, w: Work) -> Work
 }
 
 // What a task has sent to the gates, and whether all of the work is allowed so far.
-#[derive(Drop)]
+#[derive(Clone, Copy)]
 pub struct Outgoing {
     pub up: [Channel3; 16],
     pub ok: bool,

@@ -1,5 +1,7 @@
 // Text typed into a lent buffer from a place on. Each function gives back the place behind what it
 // typed; a byte that finds no room is left out.
+#![tactic(auto)]
+
 ghost use Rattle.std.specs.Prelude.{[], ◌∷◌, ◌++◌, ◌≡◌, ◌≤◌, min, length, take};
 ghost use Rattle.text.specs.Text.{typed, decimal};
 
