@@ -48,6 +48,7 @@ pub fn size_at(file: &[u8], at: usize) -> usize
 
 // The first fault of the record at a place before its fields are looked at, where allowed says
 // what the file thinks of its kind.
+#[tactic(auto, unfolding(crate::specs::Format::head_fault))]
 pub fn head_fault(file: &[u8], at: usize, allowed: Answer) -> Answer
     ensures { result ≡ head_fault file.now at allowed }
 {

@@ -5,7 +5,7 @@ use Rattle.table.specs.Tables.{mask_of}
 use Rattle.table.proofs.new_below.Given as goal
 
 -- vector v of gate g is not the mask
-abbrev unlike : List ℕ → ℕ → ℕ → ℕ → Bool
+abbrev pub unlike : List ℕ → ℕ → ℕ → ℕ → Bool
 unlike masks g mask v = not (eqb (mask_of masks g v) mask)
 
 abbrev pub invariant-loop-v : goal.invariant-loop-v
