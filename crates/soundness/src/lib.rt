@@ -1,5 +1,5 @@
 // Whether a table keeps the rules of the format: what number 11 asks of it. Each array is passed over once.
-#![tactic(auto)]
+#![tactic(auto, using(laws::proofs::Numbers::below_none, laws::proofs::Numbers::below_turn))]
 
 ghost use Rattle.std.specs.Prelude.{cond, ◌≡◌, ℕ, ◌+◌, ◌*◌, ◌<◌, ltb, leb, get_or, replicate};
 ghost use Rattle.laws.specs.Below.{all_below};
@@ -10,6 +10,7 @@ ghost use Rattle.soundness.specs.Sound.{task_entry_sound, moves_sound, vector_fi
 use numbers::GateNo;
 use table::Table;
 
+#[tactic(auto, unfolding(crate::specs::Sound::sound_table))]
 pub fn sound(table: Table) -> bool
     ensures { result ≡ sound_table table }
 {
