@@ -18,6 +18,7 @@ pub struct Work {
 }
 
 // What the oldest message of a task's channel does at a gate.
+#[tactic(auto, unfolding(crate::specs::Gates::at_gate))]
 pub fn at_gate(
     masks: &[u16],
     vectors: u8,

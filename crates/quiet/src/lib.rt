@@ -1,5 +1,5 @@
 // Whether nothing is undelivered.
-#![tactic(auto)]
+#![tactic(auto, using(laws::proofs::Numbers::below_none, laws::proofs::Numbers::below_turn))]
 
 ghost use Rattle.std.specs.Prelude.{◌≡◌};
 ghost use Rattle.quiet.specs.Quiet.{quiet};
@@ -8,6 +8,7 @@ ghost use Rattle.quiet.specs.Parts.{threes_quiet, ones_quiet};
 use channels::{Channel1, Channel3};
 use state::State;
 
+#[tactic(auto, using(laws::proofs::Numbers::below_none, laws::proofs::Numbers::below_turn), unfolding(crate::specs::Quiet::quiet))]
 pub fn quiet(s: State) -> bool
     ensures { result ≡ quiet s }
 {

@@ -1,7 +1,7 @@
 // Whether a state keeps the rules that number 11 asks of it: a function for each. There is no early
 // exit, so that places are compared side by side. A whole list of places is first looked at for what
 // most hold, which is nothing, and only another is gone through with the table.
-#![tactic(auto)]
+#![tactic(auto, using(laws::proofs::Numbers::below_none, laws::proofs::Numbers::below_turn))]
 
 ghost use Rattle.std.specs.Prelude.{◌≡◌};
 ghost use Rattle.sound_state.specs.Quiet.{none_waits, is_empty, is_silent, is_ready_only, all_ready};
@@ -36,6 +36,7 @@ pub fn sound<'a>(
     ok
 }
 
+#[tactic(auto, unfolding(crate::specs::SoundState::task_sound))]
 fn task_sound<'a>(
     vectors: &'a [u8],
     masks: &'a [u16],
@@ -60,6 +61,7 @@ fn task_sound<'a>(
             & acrosses_sound(vectors, masks, tasks, gates, present, task, across)))
 }
 
+#[tactic(auto, unfolding(crate::specs::SoundState::gate_sound))]
 fn gate_sound<'a>(
     vectors: &'a [u8],
     masks: &'a [u16],

@@ -167,6 +167,7 @@ fn is_due(moves: &[u8], number: TaskNo, state: u8, gate: GateNo, channel: Channe
 }
 
 // The task moves along a transition, is Free and announces itself.
+#[tactic(auto, using(crate::proofs::Apart::announced_apart))]
 fn moved_to(moves: &[u8], gates: u8, number: TaskNo, to: Move, w: Work) -> Work
     ensures { result ≡ moved_to moves.now gates number.0 to w }
 {
@@ -185,6 +186,7 @@ fn moved_to(moves: &[u8], gates: u8, number: TaskNo, to: Move, w: Work) -> Work
 }
 
 // A free task handles a lock request.
+#[tactic(auto, unfolding(crate::specs::Tasks::handled))]
 fn handled<'a>(
     moves: &'a [u8],
     gates: u8,
@@ -382,6 +384,7 @@ fn aborted<'a>(
 }
 
 // What the oldest message of a channel does at the task.
+#[tactic(auto, unfolding(crate::specs::Tasks::at_task))]
 pub fn at_task<'a>(
     moves: &'a [u8],
     gates: u8,
