@@ -28,7 +28,7 @@ pub enum Way {
 }
 
 pub fn way_between(from: Endpoint, to: Endpoint) -> Way
-    ensures* { λ r. ⌜ r ≡ way_of from to ⌝ }
+    ensures { result ≡ way_of from to }
 {
     match from {
         Endpoint::Nobody => Way::Nowhere,
@@ -52,7 +52,7 @@ pub fn way_between(from: Endpoint, to: Endpoint) -> Way
 
 // A byte of the log; past its end nothing is stored.
 fn store(log: &mut [u8], i: usize, byte: u8)
-    ensures* { λ _. ⌜ log.new ≡ set log.old i byte ⌝ }
+    ensures { log.new ≡ set log.old i byte }
 {
     if i < log.len() {
         log[i] = byte;
@@ -61,7 +61,7 @@ fn store(log: &mut [u8], i: usize, byte: u8)
 
 // Entry k of those behind the first `at`, two bytes.
 fn enter(log: &mut [u8], at: usize, k: u8, request: Request)
-    ensures* { λ _. ⌜ log.new ≡ entered_in_log (at + k) request log.old ⌝ }
+    ensures { log.new ≡ entered_in_log (at + k) request log.old }
 {
     let capacity = log.len() / 2;
     if at <= capacity {
@@ -76,7 +76,7 @@ fn enter(log: &mut [u8], at: usize, k: u8, request: Request)
 
 // The first of the entries, behind the log's last; past the log's end nothing is stored.
 pub fn write(log: &mut [u8], at: usize, entries: [Request; 16], count: u8)
-    ensures* { λ _. ⌜ log.new ≡ written at entries count log.old ⌝ }
+    ensures { log.new ≡ written at entries count log.old }
 {
     let mut k: u8 = 0;
     while k < count {
@@ -86,7 +86,7 @@ pub fn write(log: &mut [u8], at: usize, entries: [Request; 16], count: u8)
 }
 
 fn entry(entries: [Request; 16], k: u8) -> Request
-    ensures* { λ r. ⌜ r ≡ get_or entries k no_request ⌝ }
+    ensures { result ≡ get_or entries k no_request }
 {
     if k < 16 {
         entries[k as usize]
@@ -105,7 +105,7 @@ fn to_gate<'a>(
     g: GateNo,
 ) -> Delivered
     requires { g.0 < 16 }
-    ensures* { λ r. ⌜ r ≡ delivered_at_gate vectors.now masks.now s t.0 g.0 (pop_of s link) ⌝ }
+    ensures { result ≡ delivered_at_gate vectors.now masks.now s t.0 g.0 (pop_of s link) }
 {
     let i = g.0 as usize;
     let taken = s.pop(link);
@@ -220,7 +220,7 @@ fn along<'a>(
 
 // Number 11: whether the table, the state and the log count against a log of this length are sound.
 pub fn is_sound(table: Table, s: State, length: usize) -> bool
-    ensures* { λ r. ⌜ r ≡ sound_for table s length ⌝ }
+    ensures { result ≡ sound_for table s length }
 {
     let parts = sound_state::sound(
         &table.vectors,

@@ -18,7 +18,7 @@ pub struct Work {
 }
 
 // What the oldest message of a task's channel does at a gate.
-#[tactic(auto, unfolding(crate::specs::Gates::at_gate))]
+#[tactic(auto, unfolding(crate::specs::Gates::at_gate, crate::specs::Gates::searched))]
 pub fn at_gate(
     masks: &[u16],
     vectors: u8,
@@ -60,6 +60,7 @@ fn dealt_mask(masks: &[u16], gate: GateNo, deal: Deal) -> u16
 }
 
 // A result by a task of the dealt vector: the gate becomes idle with these offers, and searches.
+#[tactic(auto, unfolding(crate::specs::Gates::searched))]
 fn ended(
     masks: &[u16],
     vectors: u8,

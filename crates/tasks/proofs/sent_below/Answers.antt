@@ -1,0 +1,33 @@
+-- A lower task more has its message where it is in the vector; from 16 on there is no member.
+use mathlib.Core.Path.{◌≡◌, ◌∙◌}
+use native.Mathlib.Omega.{arith}
+use borrow.Author.Rules.{rules}
+use Rattle.laws.proofs.Turning.{turn_more}
+use Rattle.sets.proofs.Members.{no_member}
+use Rattle.tasks.specs.Tasks.{sent_below}
+use Rattle.tasks.proofs.sent_below.Goals as goal
+use Rattle.tasks.proofs.sent_below.Goals.{then-i-lt16+then-member, then-i-lt16+else-member, else-i-lt16}
+
+pub loop-y-preserved : goal.loop-y-preserved
+loop-y-preserved c = (
+  search rules,
+  rw (
+    turn_more,
+    ← c.loop-y.invariant.1,
+  )
+      (elim c.if-i-lt16.branch [
+        | then-i-lt16+then-member w ↦ rw (w.across-is, w.ok-is, ← w.member.ensures, w.if-member.true, w.put-longer.ensures)
+        | then-i-lt16+else-member w ↦ rw (w.across-is, w.ok-is, ← w.member.ensures, w.if-member.false)
+        | else-i-lt16 w ↦ rw (
+          w.across-is,
+          w.ok-is,
+          no_member 16 c.args.mask c.loop-y.y (search rules) w.if-i-lt16.false,
+        )
+      ]),
+)
+
+pub returns : goal.returns
+unfolding sent_below
+returns c =
+    let e : c.loop-y.y ≡ c.args.number.0 = omega arith in
+    rw (c.with.ensures, c.with_all_across.ensures) (c.loop-y.invariant.1 ∙ rw e)
