@@ -32,8 +32,8 @@ pub record Outcome : Type 0 where
   pub answer : Answer
   pub log : List ℕ
 
-abbrev pub result : Outcome → Delivered
-result o = record { state = o.state; answer = o.answer }
+abbrev pub given_back : Outcome → Delivered
+given_back o = record { state = o.state; answer = o.answer }
 
 abbrev pub with_log : List ℕ → Delivered → Outcome
 with_log log d = record { state = d.state; answer = d.answer; log = log }

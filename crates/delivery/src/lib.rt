@@ -3,7 +3,7 @@
 
 ghost use Rattle.std.specs.Prelude.{◌≡◌, ◌+◌, ◌/◌, ◌≤◌, ◌<◌, get_or, set, length};
 ghost use Rattle.channels.specs.Channels.{no_request};
-ghost use Rattle.delivery.specs.Delivery.{entered_in_log, written, settled_at_task, way_of, delivered_at_gate, delivered_at_task, along, result, sound_for, delivered};
+ghost use Rattle.delivery.specs.Delivery.{entered_in_log, written, settled_at_task, way_of, delivered_at_gate, delivered_at_task, along, given_back, sound_for, delivered};
 ghost use Rattle.state.specs.States.{pop_of};
 ghost use Rattle.delivery.specs.Within.{LinkWithin};
 
@@ -75,6 +75,7 @@ fn enter(log: &mut [u8], at: usize, k: u8, request: Request)
 }
 
 // The first of the entries, behind the log's last; past the log's end nothing is stored.
+#[tactic(auto, using(laws::proofs::Turning::turn_more), unfolding(crate::specs::Delivery::written))]
 pub fn write(log: &mut [u8], at: usize, entries: [Request; 16], count: u8)
     ensures { log.new ≡ written at entries count log.old }
 {
@@ -96,6 +97,7 @@ fn entry(entries: [Request; 16], k: u8) -> Request
 }
 
 // The oldest message of task t's channel to gate g.
+#[tactic(auto, unfolding(crate::specs::Delivery::delivered_at_gate))]
 fn to_gate<'a>(
     vectors: &'a [u8],
     masks: &'a [u16],
@@ -136,6 +138,7 @@ fn to_gate<'a>(
 }
 
 // The oldest message of a channel to task b.
+#[tactic(auto, unfolding(crate::specs::Delivery::delivered_at_task))]
 fn to_task<'a>(
     moves: &'a [u8],
     masks: &'a [u16],
@@ -146,8 +149,8 @@ fn to_task<'a>(
     b: TaskNo,
 ) -> Delivered
     requires { (b.0 < 16) × (s.logged ≤ length log.old / 2) }
-    ensures* state { λ r. ⌜ r ≡ result (delivered_at_task moves.now masks.now gates s log.old b.0 (pop_of s link)) ⌝ }
-    ensures* bytes { λ _. ⌜ log.new ≡ (delivered_at_task moves.now masks.now gates s log.old b.0 (pop_of s link)).log ⌝ }
+    ensures state { result ≡ given_back (delivered_at_task moves.now masks.now gates s log.old b.0 (pop_of s link)) }
+    ensures bytes { log.new ≡ (delivered_at_task moves.now masks.now gates s log.old b.0 (pop_of s link)).log }
 {
     let taken = s.pop(link);
     let front = taken.front;
@@ -169,8 +172,8 @@ fn to_task<'a>(
 // A task's work settled: its state and entries, or a refusal.
 fn settled(s: State, mut popped: State, log: &mut [u8], b: TaskNo, w: Work) -> Delivered
     requires { (b.0 < 16) × (s.logged ≤ length log.old / 2) }
-    ensures* state { λ r. ⌜ r ≡ result (settled_at_task s popped log.old b.0 w) ⌝ }
-    ensures* bytes { λ _. ⌜ log.new ≡ (settled_at_task s popped log.old b.0 w).log ⌝ }
+    ensures state { result ≡ given_back (settled_at_task s popped log.old b.0 w) }
+    ensures bytes { log.new ≡ (settled_at_task s popped log.old b.0 w).log }
 {
     let i = b.0 as usize;
     let at = s.logged;
@@ -208,8 +211,8 @@ fn along<'a>(
     link: Link,
 ) -> Delivered
     requires { (LinkWithin 16 16 link) × (s.logged ≤ length log.old / 2) }
-    ensures* state { λ r. ⌜ r ≡ result (along moves.now masks.now gates s log.old vectors.now link) ⌝ }
-    ensures* bytes { λ _. ⌜ log.new ≡ (along moves.now masks.now gates s log.old vectors.now link).log ⌝ }
+    ensures state { result ≡ given_back (along moves.now masks.now gates s log.old vectors.now link) }
+    ensures bytes { log.new ≡ (along moves.now masks.now gates s log.old vectors.now link).log }
 {
     match link {
         Link::ToGate(t, g) => to_gate(vectors, masks, s, Link::ToGate(t, g), t, g),
@@ -219,6 +222,7 @@ fn along<'a>(
 }
 
 // Number 11: whether the table, the state and the log count against a log of this length are sound.
+#[tactic(auto, unfolding(crate::specs::Delivery::sound_for))]
 pub fn is_sound(table: Table, s: State, length: usize) -> bool
     ensures { result ≡ sound_for table s length }
 {
@@ -234,9 +238,10 @@ pub fn is_sound(table: Table, s: State, length: usize) -> bool
 }
 
 // Makes one delivery, or refuses it with state and log as they are.
+#[tactic(auto, unfolding(crate::specs::Delivery::delivered, crate::specs::Delivery::between))]
 pub fn deliver<'a>(table: Table, s: State, log: &'a mut [u8], from: u8, to: u8) -> Delivered
-    ensures* state { λ r. ⌜ r ≡ result (delivered table s log.old from to) ⌝ }
-    ensures* bytes { λ _. ⌜ log.new ≡ (delivered table s log.old from to).log ⌝ }
+    ensures state { result ≡ given_back (delivered table s log.old from to) }
+    ensures bytes { log.new ≡ (delivered table s log.old from to).log }
 {
     if !is_sound(table, s, log.len()) {
         return Delivered {

@@ -19,6 +19,7 @@ pub struct Started {
 
 // All tasks at their start states, with the READYs that they have sent; the empty state where the
 // table is unsound.
+#[tactic(auto, using(laws::proofs::Turning::turn_more), unfolding(crate::specs::Fresh::fresh_state, crate::specs::Fresh::fresh))]
 pub fn fresh(table: Table) -> Started
     ensures { result ≡ fresh table }
 {

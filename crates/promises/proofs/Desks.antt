@@ -13,7 +13,7 @@ use Rattle.reader.specs.Reader.{read_of}
 use Rattle.schedule.specs.declared.Delivery.{Delivery}
 use Rattle.state.specs.States.{task_of, gate_of, down_of}
 use Rattle.state.specs.declared.State.{State}
-use Rattle.delivery.specs.Delivery.{Outcome, result, with_log, delivered}
+use Rattle.delivery.specs.Delivery.{Outcome, given_back, with_log, delivered}
 use Rattle.delivery.specs.declared.Delivered.{Delivered}
 use Rattle.line.specs.Law.{Law}
 use Rattle.line.specs.Runs.{line_begun, run}
@@ -31,7 +31,7 @@ module _ (desk : Desk) (keeps : Keeps desk) where
   pub same : (T : Table) (s : State) (log : List ℕ) (from to : ℕ) → desk T s log from to ≡ delivered T s log from to
   same T s log from to =
       ap (λ (d : Delivered). with_log (desk T s log from to).log d) (keeps T s log from to).state
-      ∙ ap (λ (l : List ℕ). with_log l (result (delivered T s log from to))) (keeps T s log from to).bytes
+      ∙ ap (λ (l : List ℕ). with_log l (given_back (delivered T s log from to))) (keeps T s log from to).bytes
 
   -- what the desk makes of the next delivery of the worked run
   abbrev made : (n from to : ℕ) → Outcome

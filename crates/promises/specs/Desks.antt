@@ -8,7 +8,7 @@ use Rattle.schedule.specs.declared.Delivery.{Delivery}
 use Rattle.state.specs.States.{task_of, pop_of}
 use Rattle.state.specs.declared.Link.{Link}
 use Rattle.state.specs.declared.State.{State}
-use Rattle.delivery.specs.Delivery.{Outcome, result, way_of}
+use Rattle.delivery.specs.Delivery.{Outcome, given_back, way_of}
 use Rattle.delivery.specs.declared.Way.TheVariants.{Along}
 use Rattle.line.specs.Runs.{line_begun, run_from}
 use Rattle.promises.specs.Interface.{Delivers}
@@ -21,7 +21,7 @@ module _ (desk : Desk) where
   -- it keeps the promise of a delivery, whatever it is given
   abbrev pub Keeps : Type 0
   Keeps = (T : Table) (s : State) (log : List ℕ) (from to : ℕ)
-      → Delivers T s log from to (result (desk T s log from to)) (desk T s log from to).log
+      → Delivers T s log from to (given_back (desk T s log from to)) (desk T s log from to).log
 
   -- a line that is started fresh, and its deliveries made by this desk
   unfoldable pub gone_on : Table → Outcome → List Delivery → Outcome

@@ -9,7 +9,7 @@ use Rattle.schedule.specs.declared.Schedule.{Schedule}
 use Rattle.state.specs.declared.State.{State}
 use Rattle.fresh.specs.Fresh.{fresh}
 use Rattle.fresh.specs.declared.Started.{Started}
-use Rattle.delivery.specs.Delivery.{result, sound_for, delivered}
+use Rattle.delivery.specs.Delivery.{given_back, sound_for, delivered}
 use Rattle.delivery.specs.declared.Delivered.{Delivered}
 use Rattle.quiet.specs.Quiet.{quiet}
 use Rattle.text.specs.Text.{typed}
@@ -34,7 +34,7 @@ FoundSound table s length r = r ≡ sound_for table s length
 
 -- delivery::deliver
 pub record Delivers (table : Table) (s : State) (log : List ℕ) (from to : ℕ) (r : Delivered) (log_after : List ℕ) : Type 0 where
-  pub state : r ≡ result (delivered table s log from to)
+  pub state : r ≡ given_back (delivered table s log from to)
   pub bytes : log_after ≡ (delivered table s log from to).log
 
 -- quiet::quiet
