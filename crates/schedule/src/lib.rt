@@ -21,6 +21,7 @@ pub struct Delivery {
     pub to: u8,
 }
 
+#[tactic(auto, unfolding(crate::specs::Schedules::schedule_of))]
 pub fn read(file: &[u8]) -> Schedule
     ensures { result ≡ schedule_of file.now }
 {
@@ -55,6 +56,7 @@ fn refused(answer: Answer, place: usize) -> Schedule
 }
 
 // The first fault of the record at a place: a schedule has deliveries only, kind 5.
+#[tactic(auto, unfolding(crate::specs::Schedules::fault_at))]
 fn fault_at(file: &[u8], at: usize) -> Answer
     ensures { result ≡ fault_at file.now at }
 {
@@ -66,6 +68,7 @@ fn fault_at(file: &[u8], at: usize) -> Answer
 }
 
 // The delivery with a number, of a file that was accepted; from task 0 to itself where there is none.
+#[tactic(auto, unfolding(crate::specs::Schedules::delivery_of))]
 pub fn delivery_at(file: &[u8], number: usize) -> Delivery
     ensures { result ≡ delivery_of file.now number }
 {
