@@ -19,6 +19,7 @@ pub enum Record {
 }
 
 // The record at a place of a file, by the kind that its head states: 1 to 3, or else a vector.
+#[tactic(auto, unfolding(crate::specs::Records::record_at))]
 pub fn record_at(file: &[u8], at: usize) -> Record
     ensures { result ≡ record_at file.now at }
 {
