@@ -61,6 +61,7 @@ fn refused(answer: Answer, place: usize) -> Loaded
 }
 
 // No record is left: the system record and all tasks must have come.
+#[tactic(auto, unfolding(crate::specs::Reader::ended_of))]
 fn ended(length: usize, table: Table, progress: Progress) -> Loaded
     ensures { result ≡ ended_of length (loading table progress) }
 {
@@ -75,6 +76,7 @@ fn ended(length: usize, table: Table, progress: Progress) -> Loaded
 }
 
 // The first fault of the record at a place.
+#[tactic(auto, unfolding(crate::specs::Reader::fault_at))]
 fn fault_at(file: &[u8], at: usize, table: Table, progress: Progress) -> Answer
     ensures { result ≡ fault_at file.now at (loading table progress) }
 {
@@ -87,6 +89,7 @@ fn fault_at(file: &[u8], at: usize, table: Table, progress: Progress) -> Answer
 }
 
 // Kind 1 to 4 and allowed here, then tasks not yet complete.
+#[tactic(auto, unfolding(crate::specs::Rules::kind_fault))]
 fn kind_fault(tasks: u8, progress: Progress, kind: u16) -> Answer
     ensures { result ≡ kind_fault tasks progress kind }
 {
@@ -103,6 +106,7 @@ fn kind_fault(tasks: u8, progress: Progress, kind: u16) -> Answer
 }
 
 // The record's fields: their ranges, a ninth vector, the order or a repeated mask.
+#[tactic(auto, unfolding(crate::specs::Rules::field_fault))]
 fn field_fault(table: Table, progress: Progress, next: Record) -> Answer
     ensures { result ≡ field_fault (loading table progress) next }
 {
@@ -118,6 +122,7 @@ fn field_fault(table: Table, progress: Progress, next: Record) -> Answer
     Answer::Done
 }
 
+#[tactic(auto, unfolding(crate::specs::Rules::in_range))]
 fn in_range(table: Table, next: Record) -> bool
     ensures { result ≡ in_range table next }
 {
@@ -136,6 +141,7 @@ fn in_range(table: Table, next: Record) -> bool
     }
 }
 
+#[tactic(auto, unfolding(crate::specs::Rules::is_ninth))]
 fn is_ninth(table: Table, next: Record) -> bool
     ensures { result ≡ is_ninth table next }
 {
@@ -147,6 +153,7 @@ fn is_ninth(table: Table, next: Record) -> bool
     }
 }
 
+#[tactic(auto, unfolding(crate::specs::Rules::in_order))]
 fn in_order(table: Table, progress: Progress, next: Record) -> bool
     ensures { result ≡ in_order (loading table progress) next }
 {
@@ -162,6 +169,7 @@ fn in_order(table: Table, progress: Progress, next: Record) -> bool
     }
 }
 
+#[tactic(auto, unfolding(crate::specs::Rules::with_record))]
 fn with_record(table: Table, next: Record) -> Table
     ensures { result ≡ with_record table next }
 {
@@ -185,6 +193,7 @@ fn none_came() -> Progress
     }
 }
 
+#[tactic(auto, unfolding(crate::specs::Rules::after_record))]
 fn after_record(before: Progress, next: Record) -> Progress
     ensures { result ≡ after_record before next }
 {
