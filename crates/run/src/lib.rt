@@ -20,6 +20,7 @@ pub struct Ran {
 }
 
 // The way of delivery i.
+#[tactic(auto, unfolding(crate::specs::Parts::way_by))]
 fn way_at(tasks: u8, gates: u8, file: &[u8], i: usize) -> Way
     ensures { result ≡ way_by tasks gates (delivery_of file.now i) }
 {
@@ -59,6 +60,7 @@ fn counted(length: usize, logged: usize, fired: u8) -> usize
 
 // The answer to a delivery after 11 and 8, in this order: 9 of an empty channel, 12 where the receiver's work is not allowed,
 // 10 of a full log.
+#[tactic(auto, unfolding(crate::specs::Parts::answered))]
 fn answered(empty: bool, ok: bool, full: bool) -> Answer
     ensures { result ≡ answered empty ok full }
 {
