@@ -13,6 +13,7 @@ use table::Table;
 
 // Typed into a buffer from its start on. Gives back how many bytes are typed; the log is as the last
 // delivery left it.
+#[tactic(auto, unfolding(crate::specs::Printed::printed))]
 pub fn print<'a>(
     table: &'a [u8],
     schedule: &'a [u8],
