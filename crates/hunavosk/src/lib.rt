@@ -1,4 +1,5 @@
-// The library that other programs link: what program desk prints, for a table and a schedule in memory.
+// The call that other programs make: what program desk prints, for a table and a schedule in memory. Crate
+// hunavosk_c exports it to C.
 #![tactic(auto)]
 
 ghost use Rattle.std.specs.Prelude.{◌≡◌, ltb};
@@ -7,8 +8,7 @@ ghost use Rattle.hunavosk.specs.Calls.{called};
 
 // Gives back how many bytes of text are written, at least one; 0 says that the text's buffer is too
 // short, and then neither buffer is changed. include/hunavosk.h says it for C.
-#[unsafe(no_mangle)]
-pub extern "C" fn hunavosk_desk<'a>(
+pub fn hunavosk_desk<'a>(
     table: &'a [u8],
     schedule: &'a [u8],
     log: &'a mut [u8],
