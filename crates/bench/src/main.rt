@@ -7,7 +7,7 @@
 
 mod rounds;
 
-ghost use Rattle.std.specs.Prelude.{◌×◌, ◌≡◌, ◌+◌, ◌≤◌, IfOk, length, take};
+ghost use Rattle.std.specs.Prelude.{◌≡◌, ◌≤◌, IfOk, length, take};
 
 use std::io;
 use std::io::Read;

@@ -6,7 +6,7 @@
 
 mod shown;
 
-ghost use Rattle.std.specs.Prelude.{◌×◌, ◌≡◌, ◌+◌, ◌≤◌, length, take};
+ghost use Rattle.std.specs.Prelude.{◌≡◌, ◌≤◌, length, take};
 
 use state::State;
 use std::io;

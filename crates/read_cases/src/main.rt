@@ -4,7 +4,7 @@
 // repeated and cut to its length. tools/make_read_cases.py writes the cases and the lines expected.
 #![tactic(auto)]
 
-ghost use Rattle.std.specs.Prelude.{◌×◌, ◌≡◌, ◌+◌, ◌≤◌, IfOk, length, take};
+ghost use Rattle.std.specs.Prelude.{◌≡◌, ◌≤◌, IfOk, length, take};
 
 use reader::Loaded;
 use schedule::Schedule;

@@ -9,7 +9,7 @@
 mod edits;
 mod same;
 
-ghost use Rattle.std.specs.Prelude.{◌×◌, ◌≡◌, ◌+◌, ◌≤◌, ◌<◌, IfOk, length, take};
+ghost use Rattle.std.specs.Prelude.{◌≡◌, ◌≤◌, ◌<◌, IfOk, length, take};
 
 use delivery::Delivered;
 use state::State;
