@@ -7,7 +7,10 @@
 
 mod rounds;
 
-ghost use Rattle.std.specs.Prelude.{◌≤◌, length};
+ghost use Rattle.std.specs.Prelude.{◌≡◌, ◌≤◌, IfOk, length, take};
+
+use std::io;
+use std::io::Read;
 
 const INPUT: usize = 262144;
 
@@ -19,34 +22,49 @@ const LOG: usize = 20000;
 // Room for all that is printed of a log of that length.
 const TEXT: usize = 400200;
 
-fn main() {
+fn main(rt: HostRuntime) -> io::Result<()> {
     let mut input = [0u8; INPUT];
-    let n = io::read_full(0, &mut input);
-    lines(&input[..n]);
+    let n = fill(&mut rt.stdin(), &mut input);
+    lines(&rt, &input[..n])
 }
 
-fn lines(input: &[u8]) {
+// Reads until the buffer is full, the input ends or a read fails, and gives how many bytes it put there.
+fn fill(input: &mut impl Read, buffer: &mut [u8]) -> usize
+    ensures { (result ≤ length buffer.new) × (result ≡ length (take result buffer.new)) }
+{
+    let mut done = 0;
+    while done < buffer.len() {
+        match input.read(&mut buffer[done..]) {
+            Ok(0) | Err(_) => break,
+            Ok(n) => done += n,
+        }
+    }
+    done
+}
+
+fn lines(rt: &impl Print, input: &[u8]) -> io::Result<()> {
     let mut at = 0;
     while at < input.len() {
-        let size = one(&input[at..]);
+        let size = one(rt, &input[at..])?;
         if size == 0 {
-            return;
+            return Ok(());
         }
         at += size;
     }
+    Ok(())
 }
 
 // Runs the line that `rest` begins with, and answers how many bytes it has, or 0 where it is cut off.
-fn one(rest: &[u8]) -> usize
-    ensures { result ≤ length rest.now }
+fn one(rt: &impl Print, rest: &[u8]) -> io::Result<usize>
+    ensures { IfOk result (λ size. size ≤ length rest.now) }
 {
     if rest.len() < HEAD {
-        return 0;
+        return Ok(0);
     }
     let schedule = HEAD + reads::four(&rest[5..]) as usize;
     let end = schedule + reads::four(&rest[9..]) as usize;
     if rest.len() < end {
-        return 0;
+        return Ok(0);
     }
     let mut log = [0u8; LOG];
     let mut text = [0u8; TEXT];
@@ -59,8 +77,8 @@ fn one(rest: &[u8]) -> usize
         &mut text,
     );
     let typed = text::within(&text, typed);
-    io::write_all(1, &text[..typed]);
-    end
+    rt.write_all(&text[..typed])?;
+    Ok(end)
 }
 
 // Runs a line so many times, and types what the last round left. Gives back where the text ends.

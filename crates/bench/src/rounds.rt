@@ -30,6 +30,7 @@ pub fn repeated<'a>(
 }
 
 // One round, from a fresh line on.
+#[tactic(auto, unfolding(crate::specs::Rounds::round_of))]
 fn round<'a>(mode: u8, table: Table, log: &'a mut [u8], schedule: &'a [u8], count: usize) -> Ran
     ensures state { result ≡ ran_of (round_of mode table schedule.now count log.old) }
     ensures bytes { log.new ≡ (round_of mode table schedule.now count log.old).log }

@@ -2,7 +2,11 @@
 // them. A file that can't be opened counts as empty.
 #![tactic(auto)]
 
-ghost use Rattle.io.specs.Counts.{IsPrefixLen};
+ghost use Rattle.std.specs.Prelude.{◌≡◌, ◌≤◌, length, take};
+
+use std::io::Read;
+use std::rt::Files;
+use std::{fs, io};
 
 const TABLE: usize = 40000;
 
@@ -14,27 +18,38 @@ const LOG: usize = 20000;
 // Room for all that is printed of a log of that length.
 const TEXT: usize = 400200;
 
-fn main() {
+fn main(rt: HostRuntime) -> io::Result<()> {
     let mut table = [0u8; TABLE];
     let mut schedule = [0u8; SCHEDULE];
     let mut log = [0u8; LOG];
     let mut text = [0u8; TEXT];
-    let m = load(b"table.bin", &mut table);
-    let n = load(b"sched.bin", &mut schedule);
+    let m = load(&rt, "table.bin", &mut table);
+    let n = load(&rt, "sched.bin", &mut schedule);
     let end = printed::print(&table[..m], &schedule[..n], &mut log, &mut text);
     let end = text::within(&text, end);
-    io::write_all(1, &text[..end]);
+    rt.write_all(&text[..end])
 }
 
 // As much of a file as there is room for.
-fn load<'a>(path: &'a [u8], buffer: &'a mut [u8]) -> usize
-    ensures { IsPrefixLen result buffer.new }
+fn load(files: &impl Files, path: &str, buffer: &mut [u8]) -> usize
+    ensures { (result ≤ length buffer.new) × (result ≡ length (take result buffer.new)) }
 {
-    let file = os::open_read(path);
-    if file < 0 {
-        return 0;
+    match fs::open(files, path) {
+        Ok(mut file) => fill(&mut file, buffer),
+        Err(_) => 0,
     }
-    let n = io::read_full(file, buffer);
-    libc::close(file);
-    n
+}
+
+// Reads until the buffer is full, the input ends or a read fails, and gives how many bytes it put there.
+fn fill(input: &mut impl Read, buffer: &mut [u8]) -> usize
+    ensures { (result ≤ length buffer.new) × (result ≡ length (take result buffer.new)) }
+{
+    let mut done = 0;
+    while done < buffer.len() {
+        match input.read(&mut buffer[done..]) {
+            Ok(0) | Err(_) => break,
+            Ok(n) => done += n,
+        }
+    }
+    done
 }

@@ -6,9 +6,11 @@
 
 mod shown;
 
-ghost use Rattle.io.specs.Counts.{IsPrefixLen};
+ghost use Rattle.std.specs.Prelude.{◌≡◌, ◌≤◌, length, take};
 
 use state::State;
+use std::io;
+use std::io::Read;
 use table::Table;
 
 // The most cases that are run.
@@ -30,92 +32,120 @@ const TEXT: usize = 65536;
 // The log of program desk.
 const DESK_LOG: usize = 20000;
 
-fn main() {
+fn main(rt: HostRuntime) -> io::Result<()> {
+    let mut input = rt.stdin();
     let mut cases: usize = 0;
     while cases < CASES {
-        if !one(cases) {
-            ended(cases);
-            return;
+        if !one(&rt, &mut input, cases)? {
+            return ended(&rt, cases);
         }
         cases += 1;
     }
+    Ok(())
 }
 
-fn ended(cases: usize) {
+fn ended(rt: &impl Print, cases: usize) -> io::Result<()> {
     let mut text = [0u8; 64];
     let end = text::put_decimal(&mut text, 0, cases);
     let end = text::put_word(&mut text, end, b" cases\n");
-    shown::write(&text, end);
+    shown::write(rt, &text, end)
 }
 
 // Runs the next case. False where there is none, or where a file or a log is longer than is taken.
-fn one(number: usize) -> bool {
+fn one(rt: &impl Print, input: &mut impl Read, number: usize) -> io::Result<bool> {
     let mut head = [0u8; HEAD];
-    if io::read_full(0, &mut head) < HEAD {
-        return false;
+    if fill(input, &mut head) < HEAD {
+        return Ok(false);
     }
     let table = reads::four(&head) as usize;
     let schedule = reads::four(&head[4..]) as usize;
     let room = reads::four(&head[8..]) as usize;
     if (FILE < table) | (FILE < schedule) | (LOG < room) {
-        return false;
+        return Ok(false);
     }
-    headed(number);
-    both(table, schedule, room);
-    true
+    headed(rt, number)?;
+    both(rt, input, table, schedule, room)?;
+    Ok(true)
 }
 
 // Reads files of these lengths, and runs them.
-fn both(table: usize, schedule: usize, room: usize) {
+fn both(
+    rt: &impl Print,
+    input: &mut impl Read,
+    table: usize,
+    schedule: usize,
+    room: usize,
+) -> io::Result<()> {
     let mut file = [0u8; FILE];
     let mut list = [0u8; FILE];
-    let m = filled(&mut file, table);
-    let n = filled(&mut list, schedule);
-    desk(&file[..m], &list[..n]);
-    judge(&file[..m], &list[..n], room);
+    let m = filled(input, &mut file, table);
+    let n = filled(input, &mut list, schedule);
+    desk(rt, &file[..m], &list[..n])?;
+    judge(rt, &file[..m], &list[..n], room)
 }
 
 // Reads so many bytes, as far as there are.
-fn filled(buffer: &mut [u8], size: usize) -> usize
-    ensures { IsPrefixLen result buffer.new }
+fn filled(input: &mut impl Read, buffer: &mut [u8], size: usize) -> usize
+    ensures { (result ≤ length buffer.new) × (result ≡ length (take result buffer.new)) }
 {
     let n = text::within(buffer, size);
-    io::read_full(0, &mut buffer[..n])
+    fill(input, &mut buffer[..n])
 }
 
-fn headed(number: usize) {
+// Reads until the buffer is full, the input ends or a read fails, and gives how many bytes it put there.
+fn fill(input: &mut impl Read, buffer: &mut [u8]) -> usize
+    ensures { (result ≤ length buffer.new) × (result ≡ length (take result buffer.new)) }
+{
+    let mut done = 0;
+    while done < buffer.len() {
+        match input.read(&mut buffer[done..]) {
+            Ok(0) | Err(_) => break,
+            Ok(n) => done += n,
+        }
+    }
+    done
+}
+
+fn headed(rt: &impl Print, number: usize) -> io::Result<()> {
     let mut text = [0u8; 64];
     let end = text::put_field(&mut text, 0, b"case ", number);
     let end = text::put_byte(&mut text, end, 10);
-    shown::write(&text, end);
+    shown::write(rt, &text, end)
 }
 
 // What program desk prints.
-fn desk<'a>(file: &'a [u8], schedule: &'a [u8]) {
+fn desk<'a>(rt: &impl Print, file: &'a [u8], schedule: &'a [u8]) -> io::Result<()> {
     let mut log = [0u8; DESK_LOG];
     let mut text = [0u8; TEXT];
     let end = printed::print(file, schedule, &mut log, &mut text);
-    shown::write(&text, end);
+    shown::write(rt, &text, end)
 }
 
 // The second run, where both files are accepted.
-fn judge<'a>(file: &'a [u8], schedule: &'a [u8], room: usize) {
+fn judge<'a>(rt: &impl Print, file: &'a [u8], schedule: &'a [u8], room: usize) -> io::Result<()> {
     let loaded = reader::read(file);
     let listed = schedule::read(schedule);
     let answer = loaded.answer;
     let other = listed.answer;
     if answers::is_done(answer) & answers::is_done(other) {
         let table = loaded.table;
-        again(table, schedule, listed.count, room);
+        return again(rt, table, schedule, listed.count, room);
     }
+    Ok(())
 }
 
-fn again(table: Table, schedule: &[u8], count: usize, room: usize) {
+fn again(
+    rt: &impl Print,
+    table: Table,
+    schedule: &[u8],
+    count: usize,
+    room: usize,
+) -> io::Result<()> {
     let mut log = [UNWRITTEN; LOG];
     let mut text = [0u8; TEXT];
     let n = text::within(&log, room);
     let end = seen(table, schedule, count, &mut log[..n], &mut text);
-    shown::write(&text, end);
+    shown::write(rt, &text, end)
 }
 
 // The run, and the line after it.

@@ -1,10 +1,11 @@
 // All that can be seen of a line, as text. Each function types from a place on, and gives back where it ended.
 use channels::{Channel1, Channel3, Message, Request};
 use state::{Deal, Gate, Mode, State, Task};
+use std::io;
 
-pub fn write(text: &[u8], end: usize) {
+pub fn write(rt: &impl Print, text: &[u8], end: usize) -> io::Result<()> {
     let n = text::within(text, end);
-    io::write_all(1, &text[..n]);
+    rt.write_all(&text[..n])
 }
 
 // A number below 16 in hexadecimal.

@@ -4,11 +4,12 @@
 // repeated and cut to its length. tools/make_read_cases.py writes the cases and the lines expected.
 #![tactic(auto)]
 
-ghost use Rattle.std.specs.Prelude.{◌≤◌, length};
-ghost use Rattle.io.specs.Counts.{IsPrefixLen};
+ghost use Rattle.std.specs.Prelude.{◌≡◌, ◌≤◌, IfOk, length, take};
 
 use reader::Loaded;
 use schedule::Schedule;
+use std::io;
+use std::io::Read;
 use table::Table;
 
 const INPUT: usize = 262144;
@@ -18,53 +19,64 @@ const ROOM: usize = 65536;
 // The bytes of a case besides its name and its unit.
 const HEAD: usize = 10;
 
-fn main() {
+fn main(rt: HostRuntime) -> io::Result<()> {
     let mut input = [0u8; INPUT];
-    let n = io::read_full(0, &mut input);
-    run(&input[..n]);
+    let n = fill(&mut rt.stdin(), &mut input);
+    run(&rt, &input[..n])
 }
 
-fn run(input: &[u8]) {
+// Reads until the buffer is full, the input ends or a read fails, and gives how many bytes it put there.
+fn fill(input: &mut impl Read, buffer: &mut [u8]) -> usize
+    ensures { (result ≤ length buffer.new) × (result ≡ length (take result buffer.new)) }
+{
+    let mut done = 0;
+    while done < buffer.len() {
+        match input.read(&mut buffer[done..]) {
+            Ok(0) | Err(_) => break,
+            Ok(n) => done += n,
+        }
+    }
+    done
+}
+
+fn run(rt: &impl Print, input: &[u8]) -> io::Result<()> {
     let mut at = 0;
     let mut cases: u64 = 0;
     while at < input.len() {
-        let size = one(&input[at..]);
+        let size = one(rt, &input[at..])?;
         if size == 0 {
-            show(b"malformed case at ", at);
-            io::write_all(1, b"\n");
-            return;
+            return println!(rt; "malformed case at {at}");
         }
         at += size;
         cases += 1;
     }
-    io::print_decimal(1, cases);
-    io::write_all(1, b" cases\n");
+    println!(rt; "{cases} cases")
 }
 
 // Runs the case that `rest` begins with, and answers how many bytes it has, or 0 where it is malformed.
-fn one(rest: &[u8]) -> usize
-    ensures { result ≤ length rest.now }
+fn one(rt: &impl Print, rest: &[u8]) -> io::Result<usize>
+    ensures { IfOk result (λ size. size ≤ length rest.now) }
 {
     let unit = HEAD + reads::byte(rest, 1) as usize;
     if rest.len() < unit {
-        return 0;
+        return Ok(0);
     }
     let name = unit - 8;
     let size = reads::four(&rest[name..]) as usize;
     if ROOM < size {
-        return 0;
+        return Ok(0);
     }
     let end = unit + reads::four(&rest[unit - 4..]) as usize;
     if rest.len() < end {
-        return 0;
+        return Ok(0);
     }
     if !is_case(rest[0], size, end - unit) {
-        return 0;
+        return Ok(0);
     }
-    io::write_all(1, &rest[2..name]);
-    judge(rest[0], &rest[unit..end], size);
-    io::write_all(1, b"\n");
-    end
+    rt.write_all(&rest[2..name])?;
+    judge(rt, rest[0], &rest[unit..end], size)?;
+    println!(rt; "")?;
+    Ok(end)
 }
 
 // Nothing repeated fills no file but the empty one.
@@ -75,7 +87,7 @@ fn is_case(tag: u8, size: usize, unit: usize) -> bool {
 // Fills the first `size` bytes of `file`.
 fn repeat(unit: &[u8], file: &mut [u8], size: usize)
     requires { size ≤ length file.old }
-    ensures { IsPrefixLen size file.new }
+    ensures { (size ≤ length file.new) × (size ≡ length (take size file.new)) }
 {
     let mut i = 0;
     let mut j = 0;
@@ -89,49 +101,50 @@ fn repeat(unit: &[u8], file: &mut [u8], size: usize)
     }
 }
 
-fn judge(tag: u8, unit: &[u8], size: usize)
+fn judge(rt: &impl Print, tag: u8, unit: &[u8], size: usize) -> io::Result<()>
     requires { size ≤ 65536 }
 {
     let mut file = [0u8; ROOM];
     repeat(unit, &mut file, size);
     let whole = &file[..size];
     if tag == b'T' {
-        judge_table(reader::read(whole));
+        judge_table(rt, reader::read(whole))
     } else {
-        judge_schedule(schedule::read(whole));
+        judge_schedule(rt, schedule::read(whole))
     }
 }
 
-fn judge_table(loaded: Loaded) {
+fn judge_table(rt: &impl Print, loaded: Loaded) -> io::Result<()> {
     let answer = loaded.answer;
     let number = answers::number(answer);
-    judged(number, loaded.place);
+    judged(rt, number, loaded.place)?;
     if number == 0 {
         let table = loaded.table;
-        show(b" tasks ", table.tasks as usize);
-        show(b" gates ", table.gates as usize);
-        show(b" transitions ", transitions(&table.moves));
-        show(b" vectors ", vectors(&table.vectors));
+        show(rt, " tasks ", table.tasks as usize)?;
+        show(rt, " gates ", table.gates as usize)?;
+        show(rt, " transitions ", transitions(&table.moves))?;
+        show(rt, " vectors ", vectors(&table.vectors))?;
     }
+    Ok(())
 }
 
-fn judge_schedule(schedule: Schedule) {
+fn judge_schedule(rt: &impl Print, schedule: Schedule) -> io::Result<()> {
     let answer = schedule.answer;
     let number = answers::number(answer);
-    judged(number, schedule.place);
+    judged(rt, number, schedule.place)?;
     if number == 0 {
-        show(b" deliveries ", schedule.count);
+        show(rt, " deliveries ", schedule.count)?;
     }
+    Ok(())
 }
 
-fn judged(number: u8, place: usize) {
-    show(b": answer ", number as usize);
-    show(b" at ", place);
+fn judged(rt: &impl Print, number: u8, place: usize) -> io::Result<()> {
+    show(rt, ": answer ", number as usize)?;
+    show(rt, " at ", place)
 }
 
-fn show(what: &[u8], number: usize) {
-    io::write_all(1, what);
-    io::print_decimal(1, number as u64);
+fn show(rt: &impl Print, what: &str, number: usize) -> io::Result<()> {
+    print!(rt; "{what}{number}")
 }
 
 // The cells that hold a transition.

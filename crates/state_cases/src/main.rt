@@ -9,10 +9,12 @@
 mod edits;
 mod same;
 
-ghost use Rattle.std.specs.Prelude.{◌≤◌, ◌<◌, length};
+ghost use Rattle.std.specs.Prelude.{◌≡◌, ◌≤◌, ◌<◌, IfOk, length, take};
 
 use delivery::Delivered;
 use state::State;
+use std::io;
+use std::io::Read;
 use table::Table;
 
 const INPUT: usize = 65536;
@@ -26,43 +28,59 @@ const LOG: usize = 8;
 // What a byte of the log is before the delivery, and no entry has.
 const UNWRITTEN: u8 = 255;
 
-fn main() {
+fn main(rt: HostRuntime) -> io::Result<()> {
     let mut input = [0u8; INPUT];
-    let n = io::read_full(0, &mut input);
-    run(&input[..n]);
+    let n = fill(&mut rt.stdin(), &mut input);
+    run(&rt, &input[..n])
+}
+
+// Reads until the buffer is full, the input ends or a read fails, and gives how many bytes it put there.
+fn fill(input: &mut impl Read, buffer: &mut [u8]) -> usize
+    ensures { (result ≤ length buffer.new) × (result ≡ length (take result buffer.new)) }
+{
+    let mut done = 0;
+    while done < buffer.len() {
+        match input.read(&mut buffer[done..]) {
+            Ok(0) | Err(_) => break,
+            Ok(n) => done += n,
+        }
+    }
+    done
 }
 
 // A case that is cut off ends the run.
-fn run(input: &[u8]) {
+fn run(rt: &impl Print, input: &[u8]) -> io::Result<()> {
     let mut at = 0;
     while at < input.len() {
-        let size = one(&input[at..]);
+        let size = one(rt, &input[at..])?;
         if size == 0 {
-            return;
+            return Ok(());
         }
         at += size;
     }
+    Ok(())
 }
 
 // Runs the case that `rest` begins with, and answers how many bytes it has, or 0 where it is cut off.
-fn one(rest: &[u8]) -> usize
-    ensures { result ≤ length rest.now }
+fn one(rt: &impl Print, rest: &[u8]) -> io::Result<usize>
+    ensures { IfOk result (λ size. size ≤ length rest.now) }
 {
     let name = HEAD + wide(rest, 0);
     let file = name + wide(rest, 1) + wide(rest, 2) * 256;
     let deliveries = file + wide(rest, 3) * 2;
     let end = deliveries + wide(rest, 4) * edits::SIZE;
     if rest.len() < end {
-        return 0;
+        return Ok(0);
     }
-    io::write_all(1, &rest[HEAD..name]);
+    rt.write_all(&rest[HEAD..name])?;
     judge(
+        rt,
         rest,
         &rest[name..file],
         &rest[file..deliveries],
         &rest[deliveries..end],
-    );
-    end
+    )?;
+    Ok(end)
 }
 
 fn wide(list: &[u8], i: usize) -> usize
@@ -72,7 +90,13 @@ fn wide(list: &[u8], i: usize) -> usize
 }
 
 // Builds the line, makes the delivery and prints what came of it.
-fn judge(head: &[u8], file: &[u8], deliveries: &[u8], by_hand: &[u8]) {
+fn judge(
+    rt: &impl Print,
+    head: &[u8],
+    file: &[u8],
+    deliveries: &[u8],
+    by_hand: &[u8],
+) -> io::Result<()> {
     let count = reads::byte(head, 4);
     let loaded = reader::read(file);
     let good = loaded.table;
@@ -93,12 +117,11 @@ fn judge(head: &[u8], file: &[u8], deliveries: &[u8], by_hand: &[u8]) {
     );
     let answer = delivered.answer;
     let left = delivered.state;
-    io::write_all(1, b": answer ");
-    io::print_decimal(1, answers::number(answer) as u64);
+    print!(rt; ": answer {}", answers::number(answer))?;
     if same::states(s, left) & is_unwritten(&log) {
-        io::write_all(1, b" unchanged\n");
+        println!(rt; " unchanged")
     } else {
-        io::write_all(1, b" changed\n");
+        println!(rt; " changed")
     }
 }
 
