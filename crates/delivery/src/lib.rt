@@ -10,7 +10,7 @@ ghost use Rattle.delivery.specs.Within.{LinkWithin};
 use answers::Answer;
 use channels::Request;
 use numbers::{Endpoint, GateNo, TaskNo};
-use state::{Front, Link, State};
+use state::{Front, Link, State, Task};
 use table::Table;
 use tasks::Work;
 
@@ -76,7 +76,7 @@ fn enter(log: &mut [u8], at: usize, k: u8, request: Request)
 
 // The first of the entries, behind the log's last; past the log's end nothing is stored.
 #[tactic(auto, using(laws::proofs::Turning::turn_more), unfolding(crate::specs::Delivery::written))]
-pub fn write(log: &mut [u8], at: usize, entries: [Request; 16], count: u8)
+pub fn write(log: &mut [u8], at: usize, entries: [Request; Task::WAITING], count: u8)
     ensures { log.new ≡ written at entries count log.old }
 {
     let mut k: u8 = 0;
@@ -86,11 +86,12 @@ pub fn write(log: &mut [u8], at: usize, entries: [Request; 16], count: u8)
     }
 }
 
-fn entry(entries: [Request; 16], k: u8) -> Request
+fn entry(entries: [Request; Task::WAITING], k: u8) -> Request
     ensures { result ≡ get_or entries k no_request }
 {
-    if k < 16 {
-        entries[k as usize]
+    let i = k as usize;
+    if i < Task::WAITING {
+        entries[i]
     } else {
         channels::no_request()
     }

@@ -7,6 +7,7 @@ ghost use Rattle.quiet.specs.Parts.{threes_quiet, ones_quiet};
 
 use channels::{Channel1, Channel3};
 use state::State;
+use table::Table;
 
 #[tactic(auto, using(laws::proofs::Numbers::below_none, laws::proofs::Numbers::below_turn), unfolding(crate::specs::Quiet::quiet))]
 pub fn quiet(s: State) -> bool
@@ -14,7 +15,8 @@ pub fn quiet(s: State) -> bool
 {
     let mut tasks = true;
     let mut gates = true;
-    for i in 0..16 {
+    // There is room for as many gates as tasks.
+    for i in 0..Table::TASKS {
         let p = s.tasks[i];
         let k = s.gates[i];
         let up = p.up;
@@ -26,22 +28,22 @@ pub fn quiet(s: State) -> bool
     tasks & gates
 }
 
-fn threes_quiet(list: [Channel3; 16]) -> bool
+fn threes_quiet(list: [Channel3; Table::GATES]) -> bool
     ensures { result ≡ threes_quiet list }
 {
     let mut ok = true;
-    for g in 0..16 {
+    for g in 0..Table::GATES {
         let channel = list[g];
         ok = (channel.count == 0) & ok;
     }
     ok
 }
 
-fn ones_quiet(list: [Channel1; 16]) -> bool
+fn ones_quiet(list: [Channel1; Table::TASKS]) -> bool
     ensures { result ≡ ones_quiet list }
 {
     let mut ok = true;
-    for b in 0..16 {
+    for b in 0..Table::TASKS {
         let channel = list[b];
         ok = (channel.count == 0) & ok;
     }

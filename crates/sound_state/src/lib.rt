@@ -12,6 +12,7 @@ use channels::{Channel1, Channel3, Message, Request};
 use numbers::{GateNo, TaskNo};
 use sets::Found;
 use state::{Deal, Gate, Mode, State, Task};
+use table::Table;
 
 // Whether a state keeps the rules that number 11 asks of it, by the parts of the table that they speak of.
 pub fn sound<'a>(
@@ -25,7 +26,8 @@ pub fn sound<'a>(
     ensures { result ≡ sound_state vectors.now masks.now tasks gates states.now s }
 {
     let mut ok = true;
-    for i in 0..16 {
+    // There is room for as many gates as tasks.
+    for i in 0..Table::TASKS {
         let p = s.tasks[i];
         let k = s.gates[i];
         let count = reads::byte(states, i);
@@ -52,7 +54,7 @@ fn task_sound<'a>(
     let count = p.count;
     let mode = p.mode;
     let own = state_sound(present, states, p.state)
-        & (mode_sound(vectors, masks, task, count, mode) & (count <= 16));
+        & (mode_sound(vectors, masks, task, count, mode) & (count as usize <= Task::WAITING));
     let waiting = p.waiting;
     let up = p.up;
     let across = p.across;
@@ -136,7 +138,7 @@ fn waitings_sound<'a>(
     masks: &'a [u16],
     task: TaskNo,
     count: u8,
-    waiting: [Request; 16],
+    waiting: [Request; Task::WAITING],
 ) -> bool
     ensures { result ≡ waitings_sound vectors.now masks.now task.0 count waiting }
 {
@@ -144,18 +146,18 @@ fn waitings_sound<'a>(
         return true;
     }
     let mut ok = true;
-    for i in 0..16 {
+    for i in 0..Task::WAITING {
         let request = waiting[i];
         ok = waiting_sound(vectors, masks, task, i < count as usize, request) & ok;
     }
     ok
 }
 
-fn none_waits(waiting: [Request; 16]) -> bool
+fn none_waits(waiting: [Request; Task::WAITING]) -> bool
     ensures { result ≡ none_waits waiting }
 {
     let mut ok = true;
-    for i in 0..16 {
+    for i in 0..Task::WAITING {
         let request = waiting[i];
         ok = is_no_request(request) & ok;
     }
@@ -183,14 +185,14 @@ fn is_no_request(request: Request) -> bool
     (request.gate.0 == 0) & (request.vector == 0)
 }
 
-fn ups_sound(present: bool, gates: u8, up: [Channel3; 16]) -> bool
+fn ups_sound(present: bool, gates: u8, up: [Channel3; Table::GATES]) -> bool
     ensures { result ≡ ups_sound present gates up }
 {
     if all_ready(present, gates, up) {
         return true;
     }
     let mut ok = true;
-    for g in 0..16 {
+    for g in 0..Table::GATES {
         let c = up[g];
         ok = up_sound(present & (g < gates as usize), GateNo(g as u8), c) & ok;
     }
@@ -198,11 +200,11 @@ fn ups_sound(present: bool, gates: u8, up: [Channel3; 16]) -> bool
 }
 
 // Whether no channel to a gate holds anything but READY, and each is within its room.
-fn all_ready(present: bool, gates: u8, up: [Channel3; 16]) -> bool
+fn all_ready(present: bool, gates: u8, up: [Channel3; Table::GATES]) -> bool
     ensures { result ≡ all_ready present gates up }
 {
     let mut ok = true;
-    for g in 0..16 {
+    for g in 0..Table::GATES {
         let c = up[g];
         ok = is_ready_only(present & (g < gates as usize), c) & ok;
     }
@@ -250,7 +252,7 @@ fn acrosses_sound<'a>(
     gates: u8,
     present: bool,
     from: TaskNo,
-    across: [Channel1; 16],
+    across: [Channel1; Table::TASKS],
 ) -> bool
     ensures { result ≡ acrosses_sound vectors.now masks.now tasks gates present from.0 across }
 {
@@ -258,7 +260,7 @@ fn acrosses_sound<'a>(
         return true;
     }
     let mut ok = true;
-    for b in 0..16 {
+    for b in 0..Table::TASKS {
         let c = across[b];
         let message = c.first;
         let fits = across_fits(vectors, masks, gates, from, TaskNo(b as u8), message);
@@ -273,7 +275,7 @@ fn downs_sound<'a>(
     tasks: u8,
     present: bool,
     from: GateNo,
-    down: [Channel1; 16],
+    down: [Channel1; Table::TASKS],
 ) -> bool
     ensures { result ≡ downs_sound vectors.now masks.now tasks present from.0 down }
 {
@@ -281,7 +283,7 @@ fn downs_sound<'a>(
         return true;
     }
     let mut ok = true;
-    for b in 0..16 {
+    for b in 0..Table::TASKS {
         let c = down[b];
         let message = c.first;
         let fits = down_fits(vectors, masks, from, TaskNo(b as u8), message);
@@ -290,12 +292,12 @@ fn downs_sound<'a>(
     ok
 }
 
-// Whether no channel of 16 holds a message.
-fn is_silent(channels: [Channel1; 16]) -> bool
+// Whether no channel to a task holds a message.
+fn is_silent(channels: [Channel1; Table::TASKS]) -> bool
     ensures { result ≡ is_silent channels }
 {
     let mut ok = true;
-    for b in 0..16 {
+    for b in 0..Table::TASKS {
         let c = channels[b];
         ok = is_empty(c) & ok;
     }

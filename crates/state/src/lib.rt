@@ -9,6 +9,7 @@ ghost use Rattle.state.specs.Parts.{moved_up, put_of};
 
 use channels::{Channel1, Channel3, Message, Request};
 use numbers::{GateNo, TaskNo};
+use table::Table;
 
 #[derive(Clone, Copy)]
 pub enum Mode {
@@ -23,9 +24,9 @@ pub struct Task {
     pub state: u8,
     pub mode: Mode,
     pub count: u8,
-    pub waiting: [Request; 16],
-    pub up: [Channel3; 16],
-    pub across: [Channel1; 16],
+    pub waiting: [Request; Task::WAITING],
+    pub up: [Channel3; Table::GATES],
+    pub across: [Channel1; Table::TASKS],
 }
 
 #[derive(Clone, Copy)]
@@ -39,13 +40,13 @@ pub enum Deal {
 pub struct Gate {
     pub offers: u16,
     pub deal: Deal,
-    pub down: [Channel1; 16],
+    pub down: [Channel1; Table::TASKS],
 }
 
 #[derive(Clone, Copy)]
 pub struct State {
-    pub tasks: [Task; 16],
-    pub gates: [Gate; 16],
+    pub tasks: [Task; Table::TASKS],
+    pub gates: [Gate; Table::GATES],
     pub logged: usize,
 }
 
@@ -111,6 +112,9 @@ fn front_of(count: u8, first: Message) -> Front
 }
 
 impl Task {
+    // A waiting list has room for so many requests.
+    pub const WAITING: usize = 16;
+
     pub fn empty() -> Self
         ensures { result ≡ empty_task }
     {
@@ -121,9 +125,9 @@ impl Task {
             state: 0,
             mode: Mode::Free,
             count: 0,
-            waiting: [none; 16],
-            up: [none3; 16],
-            across: [none1; 16],
+            waiting: [none; Task::WAITING],
+            up: [none3; Table::GATES],
+            across: [none1; Table::TASKS],
         }
     }
 
@@ -164,7 +168,7 @@ impl Task {
 // A task with one of its arrays changed is made field by field: the arrays that stay are then copied
 // once, however many such changes follow each other.
 impl Task {
-    pub fn with_all_up(self, up: [Channel3; 16]) -> Self
+    pub fn with_all_up(self, up: [Channel3; Table::GATES]) -> Self
         ensures { result ≡ with_all_up self up }
     {
         let mode = self.mode;
@@ -180,7 +184,7 @@ impl Task {
         }
     }
 
-    pub fn with_all_across(self, across: [Channel1; 16]) -> Self
+    pub fn with_all_across(self, across: [Channel1; Table::TASKS]) -> Self
         ensures { result ≡ with_all_across self across }
     {
         let mode = self.mode;
@@ -203,8 +207,9 @@ impl Task {
         ensures { result ≡ with_last self request }
     {
         let n = self.count;
-        if n < 16 {
-            self.waiting[n as usize] = request;
+        let i = n as usize;
+        if i < Task::WAITING {
+            self.waiting[i] = request;
             self.count = n + 1;
             return self;
         }
@@ -232,16 +237,16 @@ impl Task {
 }
 
 // Each request of a waiting list moves up by one, and the filler comes last.
-fn moved_up(list: [Request; 16]) -> [Request; 16]
+fn moved_up(list: [Request; Task::WAITING]) -> [Request; Task::WAITING]
     ensures { result ≡ moved_up list }
 {
     let mut moved = list;
     let mut i: usize = 0;
-    while i < 15 {
+    while i < Task::WAITING - 1 {
         moved[i] = moved[i + 1];
         i += 1;
     }
-    moved[15] = channels::no_request();
+    moved[Task::WAITING - 1] = channels::no_request();
     moved
 }
 
@@ -253,7 +258,7 @@ impl Gate {
         Gate {
             offers: 0,
             deal: Deal::Idle,
-            down: [none; 16],
+            down: [none; Table::TASKS],
         }
     }
 }
@@ -265,8 +270,8 @@ impl State {
         let task = Task::empty();
         let gate = Gate::empty();
         State {
-            tasks: [task; 16],
-            gates: [gate; 16],
+            tasks: [task; Table::TASKS],
+            gates: [gate; Table::GATES],
             logged: 0,
         }
     }
@@ -279,7 +284,7 @@ impl Task {
         ensures { result ≡ pop_up self gate.0 }
     {
         let i = gate.0 as usize;
-        if i < 16 {
+        if i < Table::GATES {
             let mut up = self.up;
             let channel = up[i];
             let first = channel.first;
@@ -299,7 +304,7 @@ impl Task {
         ensures { result ≡ put_up self gate.0 message }
     {
         let i = gate.0 as usize;
-        if i < 16 {
+        if i < Table::GATES {
             let mut up = self.up;
             let channel = up[i];
             let room = channel.count < 3;
@@ -318,7 +323,7 @@ impl Task {
         ensures { result ≡ pop_across self to.0 }
     {
         let i = to.0 as usize;
-        if i < 16 {
+        if i < Table::TASKS {
             let mut across = self.across;
             let channel = across[i];
             let first = channel.first;
@@ -338,7 +343,7 @@ impl Task {
         ensures { result ≡ put_across self to.0 message }
     {
         let i = to.0 as usize;
-        if i < 16 {
+        if i < Table::TASKS {
             let mut across = self.across;
             let channel = across[i];
             let room = channel.count < 1;
@@ -359,7 +364,7 @@ impl Gate {
         ensures { result ≡ pop_down self task.0 }
     {
         let i = task.0 as usize;
-        if i < 16 {
+        if i < Table::TASKS {
             let channel = self.down[i];
             let first = channel.first;
             let front = front_of(channel.count, first);
@@ -377,7 +382,7 @@ impl Gate {
         ensures { result ≡ put_down self task.0 message }
     {
         let i = task.0 as usize;
-        if i < 16 {
+        if i < Table::TASKS {
             let channel = self.down[i];
             let room = channel.count < 1;
             let longer = channel.put(message);
@@ -399,7 +404,7 @@ impl State {
         match link {
             Link::ToGate(t, g) => {
                 let i = t.0 as usize;
-                if i < 16 {
+                if i < Table::TASKS {
                     let task = self.tasks[i];
                     let popped = task.pop_up(g);
                     let task = popped.task;
@@ -414,7 +419,7 @@ impl State {
             }
             Link::FromGate(g, t) => {
                 let i = g.0 as usize;
-                if i < 16 {
+                if i < Table::GATES {
                     let gate = self.gates[i];
                     let popped = gate.pop_down(t);
                     let gate = popped.gate;
@@ -429,7 +434,7 @@ impl State {
             }
             Link::ToTask(t, b) => {
                 let i = t.0 as usize;
-                if i < 16 {
+                if i < Table::TASKS {
                     let task = self.tasks[i];
                     let popped = task.pop_across(b);
                     let task = popped.task;
@@ -452,7 +457,7 @@ impl State {
         match link {
             Link::ToGate(t, g) => {
                 let i = t.0 as usize;
-                if i < 16 {
+                if i < Table::TASKS {
                     let task = self.tasks[i];
                     let put = task.put_up(g, message);
                     let task = put.task;
@@ -469,7 +474,7 @@ impl State {
             }
             Link::FromGate(g, t) => {
                 let i = g.0 as usize;
-                if i < 16 {
+                if i < Table::GATES {
                     let gate = self.gates[i];
                     let put = gate.put_down(t, message);
                     let gate = put.gate;
@@ -486,7 +491,7 @@ impl State {
             }
             Link::ToTask(t, b) => {
                 let i = t.0 as usize;
-                if i < 16 {
+                if i < Table::TASKS {
                     let task = self.tasks[i];
                     let put = task.put_across(b, message);
                     let task = put.task;

@@ -11,7 +11,7 @@ use channels::{Channel3, Message, Request};
 use numbers::{GateNo, TaskNo};
 use sets::Found;
 use state::{Mode, Task};
-use table::Move;
+use table::{Move, Table};
 
 // The work of one delivery on its receiver: the task so far, whether all of it is allowed, and the
 // log entries of it.
@@ -20,7 +20,7 @@ pub struct Work {
     pub task: Task,
     pub ok: bool,
     pub fired: u8,
-    pub entries: [Request; 16],
+    pub entries: [Request; Task::WAITING],
 }
 
 impl Work {
@@ -28,7 +28,7 @@ impl Work {
         ensures { result ≡ begun task }
     {
         let none = channels::no_request();
-        let entries = [none; 16];
+        let entries = [none; Task::WAITING];
         Work {
             task,
             ok: true,
@@ -41,7 +41,7 @@ impl Work {
         ensures { result ≡ excluded task }
     {
         let none = channels::no_request();
-        let entries = [none; 16];
+        let entries = [none; Task::WAITING];
         Work {
             task,
             ok: false,
@@ -87,7 +87,7 @@ impl Work {
     {
         let n = self.fired;
         let i = n as usize;
-        if i < 16 {
+        if i < Task::WAITING {
             self.entries[i] = request;
             self.fired = n + 1;
             return self;
@@ -113,7 +113,7 @@ fn sent_below(number: TaskNo, mask: u16, message: Message, w: Work) -> Work
     let mut y: u8 = 0;
     while y < number.0 {
         let i = y as usize;
-        if i < 16 {
+        if i < Table::TASKS {
             let channel = across[i];
             if sets::member(mask, TaskNo(y)) {
                 ok = ok & (channel.count < 1);
@@ -129,7 +129,7 @@ fn sent_below(number: TaskNo, mask: u16, message: Message, w: Work) -> Work
 // What a task has sent to the gates, and whether all of the work is allowed so far.
 #[derive(Clone, Copy)]
 pub struct Outgoing {
-    pub up: [Channel3; 16],
+    pub up: [Channel3; Table::GATES],
     pub ok: bool,
 }
 
@@ -143,7 +143,7 @@ pub fn announced(moves: &[u8], gates: u8, number: TaskNo, state: u8, before: Out
     let mut g: u8 = 0;
     while g < gates {
         let i = g as usize;
-        if i < 16 {
+        if i < Table::GATES {
             let channel = up[i];
             if is_due(moves, number, state, GateNo(g), channel) {
                 ok = ok & (channel.count < 3);
@@ -318,12 +318,11 @@ fn list_handled<'a>(
     w
 }
 
-// A held task lets a request wait; there is room for 16.
+// A held task lets a request wait, where there is room.
 fn waits(task: Task, request: Request) -> Work
     ensures { result ≡ waits task request }
 {
-    let count = task.count;
-    if count < 16 {
+    if (task.count as usize) < Task::WAITING {
         return Work::begun(task.with_last(request));
     }
     Work::excluded(task)

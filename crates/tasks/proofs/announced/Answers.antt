@@ -6,7 +6,7 @@ use Rattle.laws.proofs.Turning.{turn_more}
 use Rattle.table.proofs.Cells.{not_ready}
 use Rattle.tasks.specs.Parts.{announced_up}
 use Rattle.tasks.proofs.announced.Goals as goal
-use Rattle.tasks.proofs.announced.Goals.{then-i-lt16+then-is_due, then-i-lt16+else-is_due, else-i-lt16}
+use Rattle.tasks.proofs.announced.Goals.{then-i-lt-GATES+then-is_due, then-i-lt-GATES+else-is_due, else-i-lt-GATES}
 
 pub loop-g-preserved : goal.loop-g-preserved
 loop-g-preserved c = (
@@ -15,13 +15,13 @@ loop-g-preserved c = (
     turn_more,
     ← c.loop-g.invariant.1,
   )
-      (elim c.if-i-lt16.branch [
-        | then-i-lt16+then-is_due w ↦ rw (w.up-is, w.ok-is, ← w.is_due.ensures, w.if-is_due.true, w.put-longer.ensures)
-        | then-i-lt16+else-is_due w ↦ rw (w.up-is, w.ok-is, ← w.is_due.ensures, w.if-is_due.false)
-        | else-i-lt16 w ↦ rw (
+      (elim c.if-i-lt-GATES.branch [
+        | then-i-lt-GATES+then-is_due w ↦ rw (w.up-is, w.ok-is, ← w.is_due.ensures, w.if-is_due.true, w.put-longer.ensures)
+        | then-i-lt-GATES+else-is_due w ↦ rw (w.up-is, w.ok-is, ← w.is_due.ensures, w.if-is_due.false)
+        | else-i-lt-GATES w ↦ rw (
           w.up-is,
           w.ok-is,
-          not_ready c.args.moves.now c.args.number.0 c.args.state c.loop-g.g w.if-i-lt16.false,
+          not_ready c.args.moves.now c.args.number.0 c.args.state c.loop-g.g w.if-i-lt-GATES.false,
         )
       ]),
 )

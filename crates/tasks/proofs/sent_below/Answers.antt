@@ -6,7 +6,7 @@ use Rattle.laws.proofs.Turning.{turn_more}
 use Rattle.sets.proofs.Members.{no_member}
 use Rattle.tasks.specs.Tasks.{sent_below}
 use Rattle.tasks.proofs.sent_below.Goals as goal
-use Rattle.tasks.proofs.sent_below.Goals.{then-i-lt16+then-member, then-i-lt16+else-member, else-i-lt16}
+use Rattle.tasks.proofs.sent_below.Goals.{then-i-lt-TASKS+then-member, then-i-lt-TASKS+else-member, else-i-lt-TASKS}
 
 pub loop-y-preserved : goal.loop-y-preserved
 loop-y-preserved c = (
@@ -15,13 +15,13 @@ loop-y-preserved c = (
     turn_more,
     ← c.loop-y.invariant.1,
   )
-      (elim c.if-i-lt16.branch [
-        | then-i-lt16+then-member w ↦ rw (w.across-is, w.ok-is, ← w.member.ensures, w.if-member.true, w.put-longer.ensures)
-        | then-i-lt16+else-member w ↦ rw (w.across-is, w.ok-is, ← w.member.ensures, w.if-member.false)
-        | else-i-lt16 w ↦ rw (
+      (elim c.if-i-lt-TASKS.branch [
+        | then-i-lt-TASKS+then-member w ↦ rw (w.across-is, w.ok-is, ← w.member.ensures, w.if-member.true, w.put-longer.ensures)
+        | then-i-lt-TASKS+else-member w ↦ rw (w.across-is, w.ok-is, ← w.member.ensures, w.if-member.false)
+        | else-i-lt-TASKS w ↦ rw (
           w.across-is,
           w.ok-is,
-          no_member 16 c.args.mask c.loop-y.y (search rules) w.if-i-lt16.false,
+          no_member 16 c.args.mask c.loop-y.y (search rules) w.if-i-lt-TASKS.false,
         )
       ]),
 )
