@@ -1,7 +1,7 @@
 -- Before turn i all is as i rounds left it.
 use Rattle.std.proofs.Common.{◌-◌, ◌≡◌, ◌≤◌}
 use Rattle.laws.specs.Turns.{up_to}
-use Rattle.run.specs.Run.{Course, course_begun, ran_of}
+use Rattle.run.specs.Run.{course_begun, ran_of}
 use Rattle.state.specs.States.{empty_state}
 use Rattle.bench.specs.Rounds.{turn_of}
 use Rattle.bench.proofs.rounds.repeated.Given as goal
