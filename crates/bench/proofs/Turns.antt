@@ -1,5 +1,9 @@
--- A turn of deliveries whose answers are looked at: one that is refused is the last.
-use Rattle.std.proofs.Common.{ℕ, ◌+◌, ◌<◌, true, false, List, ◌≡◌, ◌∙◌, arith}
+-- A turn of deliveries whose answers are looked at: after one that is done the next turn comes, and one that is refused is the last.
+use Prim.Native.Nat.{ℕ, ◌+◌, ◌<◌}
+use mathlib.Core.Bool.{true, false}
+use mathlib.Core.List.{List}
+use mathlib.Core.Path.{◌≡◌, ◌∙◌}
+use native.Mathlib.Omega.{arith}
 use Rattle.answers.specs.Answers.{is_done}
 use Rattle.answers.specs.declared.Answer.{Answer}
 use Rattle.delivery.specs.Delivery.{Outcome}
@@ -13,6 +17,9 @@ use Rattle.state.specs.declared.State.{State}
 module _ (next : State → List ℕ → Delivery → Outcome) (file : List ℕ) (c₀ : Course) (s : State) (log : List ℕ) (answer : Answer)
     (i : ℕ) (before : turns next file c₀ i ≡ so_far s log answer i) (go : is_done answer ≡ true) (o : Outcome)
     (e : next s log (delivery_of file i) ≡ o) where
+  pub turn_done : is_done o.answer ≡ true → turns next file c₀ (i + 1) ≡ so_far o.state o.log o.answer (i + 1)
+  turn_done d = turn_more (turn_at next file) i c₀ ∙ rw (before, go, e, d)
+
   pub turn_last : is_done o.answer ≡ false → (count : ℕ) → i < count
       → course next file count c₀ ≡ so_far o.state o.log o.answer i
   unfolding course
