@@ -1,5 +1,5 @@
 -- `gates_sound` meets its contract: the flag is the test of the gates so far.
-use Rattle.std.proofs.Common.{◌-◌, ◌≡◌}
+use Rattle.std.proofs.Common.{◌≡◌}
 use Rattle.laws.specs.Below.{all_below}
 use Rattle.soundness.specs.Sound.{gate_entry_sound}
 use Rattle.soundness.proofs.gates_sound.Given as goal

@@ -1,5 +1,5 @@
 -- `limits` meets its contract: each turn fills one place more.
-use Rattle.std.proofs.Common.{cond, get_or, length, ltb, ℕ, ◌-◌, ◌<◌, ◌≡◌}
+use Rattle.std.proofs.Common.{cond, get_or, length, ltb, ℕ, ◌<◌, ◌≡◌}
 use Rattle.soundness.proofs.limits.Given as goal
 
 abbrev pub invariant-loop-g : goal.invariant-loop-g

@@ -1,5 +1,5 @@
 -- `row_within` meets its contract: the flag is the test of the cells so far.
-use Rattle.std.proofs.Common.{◌-◌, ◌≡◌}
+use Rattle.std.proofs.Common.{◌≡◌}
 use Rattle.laws.specs.Below.{all_below}
 use Rattle.soundness.proofs.Rows.{cell_fits}
 use Rattle.soundness.proofs.row_within.Given as goal

@@ -1,5 +1,5 @@
 -- `rows_within` meets its contract: the flag is the test of the rows so far.
-use Rattle.std.proofs.Common.{◌-◌, ◌≡◌}
+use Rattle.std.proofs.Common.{◌≡◌}
 use Rattle.laws.specs.Below.{all_below}
 use Rattle.soundness.proofs.Rows.{row_fits}
 use Rattle.soundness.proofs.rows_within.Given as goal

@@ -1,5 +1,5 @@
 -- All digits but the last, and then the last.
-use Prim.Native.Nat.{ℕ, ◌^◌, ◌<◌, ◌≤◌}
+use Prim.Native.Nat.{◌^◌, ◌<◌, ◌≤◌}
 use native.Mathlib.Omega.{arith}
 use Rattle.text.proofs.Typing.{told, parts, typed_then}
 use Rattle.text.proofs.Decimal.{decimal_digit, decimal_more}
