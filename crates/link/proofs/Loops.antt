@@ -3,7 +3,6 @@ use Prim.Native.Nat.{ℕ, ◌<◌, ◌≤◌, suc, zero}
 use mathlib.Core.Bool.{Bool, ◌&&◌, cond, false, not, true}
 use mathlib.Core.List.{List, [], ◌++◌, ◌∷◌}
 use mathlib.Core.Logic.{◌≢◌}
-use mathlib.Core.Option.{none}
 use mathlib.Core.Path.{◌≡◌, ◌∙◌, ap, refl, sym}
 use native.Mathlib.Numerals.{add-one}
 use native.Mathlib.Omega.{arith}
@@ -21,7 +20,6 @@ use Rattle.channels.specs.declared.Message.{Message}
 use Rattle.channels.specs.declared.Message.TheVariants.{Ready}
 use Rattle.channels.specs.declared.Request.{Request}
 use Rattle.state.specs.declared.Task.{Task}
-use Rattle.sound_state.specs.Parts.{room}
 use Rattle.tasks.specs.Tasks.{announced_at, sent_at}
 use Rattle.tasks.specs.declared.Work.{Work}
 use Rattle.protocol.specs.Plans.{changed}

@@ -2,7 +2,6 @@
 use Prim.Native.Nat.{ℕ, ◌<◌, ◌≤◌}
 use mathlib.Core.Bool.{Bool, ◌&&◌, cond, false, true}
 use mathlib.Core.List.{List, [], ◌++◌, ◌∷◌}
-use mathlib.Core.Option.{none}
 use mathlib.Core.Path.{◌≡◌, ◌∙◌, ap, refl, subst, sym}
 use native.Mathlib.Omega.{arith}
 use lib.Dec.{ltb}
