@@ -26,7 +26,7 @@ use Rattle.protocol.proofs.Fronts.{phase_decided}
 use Rattle.protocol.proofs.Invariant.{Invariant}
 use Rattle.protocol.proofs.Phases.{decided}
 use Rattle.line.specs.Contents.{messages1}
-use Rattle.line.specs.Law.{travels}
+use Rattle.line.specs.Law.{Travels}
 use Rattle.link.proofs.Channels.{empty_messages1, pop_messages1}
 use Rattle.link.proofs.Tables.{plan_of, Lawful}
 use Rattle.link.proofs.View.{line_of}
@@ -45,18 +45,18 @@ leads_to x Nowhere e = clash (sym e)
 leads_to x (To y) e = refl
 
 module _ (T : Table) (q : Lawful T) (s : State) (log : List ℕ) (R : StateRules T s) (i : Invariant (plan_of T) (line_of s log)) (t : ℕ) where
-  pub exact_state : ((a g : ℕ) → travels s a t (Commit (record { 0 = g })) → ⊥) → i.ghost.replayed t ≡ (task_of s t).state
+  pub exact_state : ((a g : ℕ) → Travels s a t (Commit (record { 0 = g })) → ⊥) → i.ghost.replayed t ≡ (task_of s t).state
   exact_state none = not_behind (plan_of T) (line_of s log) i t (λ u g l e. none u g (commit_travels (across_of (task_of s u) t) g e))
 
   -- a COMMIT that travels to t comes from a higher task
-  commit_from : (a g : ℕ) → travels s a t (Commit (record { 0 = g })) → (t < a) × ((line_of s log).across a t ≡ result true g ∷ [])
+  commit_from : (a g : ℕ) → Travels s a t (Commit (record { 0 = g })) → (t < a) × ((line_of s log).across a t ≡ result true g ∷ [])
   commit_from a g c =
       let fit = subst (λ (m : Message). across_fit T a t m ≡ true) c.1 (across_there T s R a t c.0).1.1 in (
         ltb-true t a (and_left (ltb t a) (ltb g T.gates) fit),
         pop_messages1 (across_of (task_of s a) t) c.0 ∙ ap (λ (m : Message). m ∷ []) c.1,
       )
 
-  pub behind_state : (a g : ℕ) → travels s a t (Commit (record { 0 = g }))
+  pub behind_state : (a g : ℕ) → Travels s a t (Commit (record { 0 = g }))
       → move_of T.moves t (task_of s t).state g ≡ To (i.ghost.replayed t)
   behind_state a g c =
       let f = commit_from a g c in
@@ -64,7 +64,7 @@ module _ (T : Table) (q : Lawful T) (s : State) (log : List ℕ) (R : StateRules
       leads_to (task_of s t).state (move_of T.moves t (task_of s t).state g) ready
       ∙ ap To (sym (one_behind (plan_of T) (line_of s log) i t a g [] f.0 f.1))
 
-  pub one_commit_lem : (a b g h : ℕ) → travels s a t (Commit (record { 0 = g })) → travels s b t (Commit (record { 0 = h }))
+  pub one_commit_lem : (a b g h : ℕ) → Travels s a t (Commit (record { 0 = g })) → Travels s b t (Commit (record { 0 = h }))
       → (a ≡ b) × (g ≡ h)
   one_commit_lem a b g h c d =
       let e = commit_from a g c in

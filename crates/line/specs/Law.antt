@@ -17,8 +17,8 @@ use Rattle.line.specs.Contents.{entries_of}
 use Rattle.line.specs.Tokens.{tokens}
 
 -- message m travels from task a to task b
-abbrev pub travels : State → ℕ → ℕ → Message → Type 0
-travels s a b m = ((across_of (task_of s a) b).count ≢ 0) × ((across_of (task_of s a) b).first ≡ m)
+abbrev pub Travels : State → ℕ → ℕ → Message → Type 0
+Travels s a b m = ((across_of (task_of s a) b).count ≢ 0) × ((across_of (task_of s a) b).first ≡ m)
 
 -- A table, the bytes of the log at the start, and the state and log that are reached.
 module _ (T : Table) (before : List ℕ) (s : State) (log : List ℕ) where
@@ -41,10 +41,10 @@ module _ (T : Table) (before : List ℕ) (s : State) (log : List ℕ) where
     pub none_waits : quiet s ≡ true → (t : ℕ) → (task_of s t).count ≡ 0
     pub none_ready : quiet s ≡ true → (g v : ℕ) → enabled T (λ t. (task_of s t).state) g v ≡ false
     -- "each task's stored state is its state in that replay, unless a COMMIT travels to it; then it is one move behind"
-    pub exact : (t : ℕ) → ((a g : ℕ) → travels s a t (Commit (record { 0 = g })) → ⊥) → replayed t ≡ (task_of s t).state
-    pub one_behind : (t a g : ℕ) → travels s a t (Commit (record { 0 = g }))
+    pub exact : (t : ℕ) → ((a g : ℕ) → Travels s a t (Commit (record { 0 = g })) → ⊥) → replayed t ≡ (task_of s t).state
+    pub one_behind : (t a g : ℕ) → Travels s a t (Commit (record { 0 = g }))
         → move_of T.moves t (task_of s t).state g ≡ To (replayed t)
-    pub one_commit : (t a b g h : ℕ) → travels s a t (Commit (record { 0 = g })) → travels s b t (Commit (record { 0 = h }))
+    pub one_commit : (t a b g h : ℕ) → Travels s a t (Commit (record { 0 = g })) → Travels s b t (Commit (record { 0 = h }))
         → (a ≡ b) × (g ≡ h)
     -- "LOCKs of gate g, travelling or waiting, plus results on the way to g, number 1 while g is Dealing and 0 while it
     -- is Idle"
