@@ -5,16 +5,17 @@ use mathlib.Core.Bool.{Bool, true, false, cond, true≢false}
 use mathlib.Core.Logic.{⊎_elim}
 use mathlib.Core.Path.{◌≡◌, refl, sym, ap, subst, ◌∙◌}
 use native.Mathlib.Omega.{arith}
-use lib.Dec.{ltb}
-use borrow.Author.Tests.{ltb-true, ltb-false, lt-ltb, le-ltb}
+use lib.Dec.{eqb, ltb}
+use borrow.Author.Tests.{ltb-true, ltb-false, lt-ltb, le-ltb, eq-eqb, eqb-true}
 use Rattle.laws.specs.Below.{first_from}
 use Rattle.laws.specs.Last.{last_below}
 use Rattle.laws.proofs.Searches.{First, first_says, first_is, Last, found, nowhere, last_says, last_is}
 use Rattle.laws.proofs.Tests.{le_or_lt}
 use Rattle.numbers.specs.declared.TaskNo.{TaskNo}
 use Rattle.sets.specs.declared.Found.TheVariants.{Nobody, Task}
+use Rattle.sets.specs.declared.Found.{Found}
 use Rattle.sets.specs.Sets.{member_of, found_of, lowest_of, next_above_of}
-use Rattle.sets.specs.Highest.{highest_of}
+use Rattle.sets.specs.Highest.{highest_of, is_found, is_highest_of}
 
 -- t is the first member from a number on
 pub record FirstMember (set from : ℕ) (t : TaskNo) : Type 0 where
@@ -129,3 +130,25 @@ module _ (set : ℕ) where
   pub highest_none : ((k : ℕ) → k < 16 → member_of set k ≡ false) → highest_of set ≡ Nobody
   highest_none h = nobody_found (last_below 16 (member_of set) 16)
       (let e = last_is (member_of set) 16 16 16 (nowhere refl h) in omega arith)
+
+  -- the highest has no higher one in the set, and a member that is not the highest has
+  pub highest_no_next : (t : ℕ) → is_highest_of set t ≡ true → next_above_of set t ≡ Nobody
+  highest_no_next t e = turn (highest_of set) refl e
+    where
+      turn : (f : Found) → highest_of set ≡ f → is_found t f ≡ true → next_above_of set t ≡ Nobody
+      turn Nobody h i = absurd (true≢false (sym i))
+      turn (Task b) h i =
+          let s = highest_says b h in
+          let q : b.0 ≡ t = eqb-true b.0 t i in
+          next_none t (λ k l m. s.after k (omega arith) m)
+
+  pub lower_has_next : (t : ℕ) → member_of set t ≡ true → t < 16 → is_highest_of set t ≡ false → (b : TaskNo) × (next_above_of set t ≡ Task b)
+  lower_has_next t m l e = turn (next_above_of set t) refl
+    where
+      turn : (f : Found) → next_above_of set t ≡ f → (b : TaskNo) × (next_above_of set t ≡ Task b)
+      turn (Task b) h = (b, h)
+      turn Nobody h =
+          let top : highest_of set ≡ Task (record { 0 = t }) =
+          highest_is (record { 0 = t }) (record { member = m; high = l; after = next_nobody t h }) in
+          let same : is_highest_of set t ≡ true = rw (top, eq-eqb t t refl) in
+          absurd (true≢false (sym same ∙ e))

@@ -3,7 +3,7 @@
 
 ghost use Rattle.std.specs.Prelude.{◌≡◌, ◌≤◌, ◌-◌};
 ghost use Rattle.sets.specs.Sets.{member_of, subset_of, all_below_of, union_of, minus_of, with_of, without_of, lowest_of, next_above_of, alone_of, found_of};
-ghost use Rattle.sets.specs.Highest.{highest_of};
+ghost use Rattle.sets.specs.Highest.{highest_of, is_highest_of};
 ghost use Rattle.laws.specs.Below.{first_from};
 
 use numbers::TaskNo;
@@ -88,6 +88,16 @@ pub fn highest(set: u16) -> Found
         t -= 1;
     }
     Found::Nobody
+}
+
+// Whether a task is the set's highest.
+pub fn is_highest(set: u16, task: TaskNo) -> bool
+    ensures { result ≡ is_highest_of set task.0 }
+{
+    match highest(set) {
+        Found::Nobody => false,
+        Found::Task(last) => last.0 == task.0,
+    }
 }
 
 // The set of one task.
