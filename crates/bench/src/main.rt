@@ -7,10 +7,9 @@
 
 mod rounds;
 
-ghost use Rattle.std.specs.Prelude.{◌≡◌, ◌≤◌, IfOk, length, take};
+ghost use Rattle.std.specs.Prelude.{◌≤◌, IfOk, length};
 
 use std::io;
-use std::io::Read;
 
 const INPUT: usize = 262144;
 
@@ -24,22 +23,8 @@ const TEXT: usize = 400200;
 
 fn main(rt: HostRuntime) -> io::Result<()> {
     let mut input = [0u8; INPUT];
-    let n = fill(&mut rt.stdin(), &mut input);
+    let n = stream::fill(&mut rt.stdin(), &mut input);
     lines(&rt, &input[..n])
-}
-
-// Reads until the buffer is full, the input ends or a read fails, and gives how many bytes it put there.
-fn fill(input: &mut impl Read, buffer: &mut [u8]) -> usize
-    ensures { (result ≤ length buffer.new) × (result ≡ length (take result buffer.new)) }
-{
-    let mut done = 0;
-    while done < buffer.len() {
-        match input.read(&mut buffer[done..]) {
-            Ok(0) | Err(_) => break,
-            Ok(n) => done += n,
-        }
-    }
-    done
 }
 
 fn lines(rt: &impl Print, input: &[u8]) -> io::Result<()> {

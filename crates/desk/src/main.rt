@@ -4,7 +4,6 @@
 
 ghost use Rattle.std.specs.Prelude.{◌≡◌, ◌≤◌, length, take};
 
-use std::io::Read;
 use std::rt::Files;
 use std::{fs, io};
 
@@ -35,21 +34,7 @@ fn load(files: &impl Files, path: &str, buffer: &mut [u8]) -> usize
     ensures { (result ≤ length buffer.new) × (result ≡ length (take result buffer.new)) }
 {
     match fs::open(files, path) {
-        Ok(mut file) => fill(&mut file, buffer),
+        Ok(mut file) => stream::fill(&mut file, buffer),
         Err(_) => 0,
     }
-}
-
-// Reads until the buffer is full, the input ends or a read fails, and gives how many bytes it put there.
-fn fill(input: &mut impl Read, buffer: &mut [u8]) -> usize
-    ensures { (result ≤ length buffer.new) × (result ≡ length (take result buffer.new)) }
-{
-    let mut done = 0;
-    while done < buffer.len() {
-        match input.read(&mut buffer[done..]) {
-            Ok(0) | Err(_) => break,
-            Ok(n) => done += n,
-        }
-    }
-    done
 }

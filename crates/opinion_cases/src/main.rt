@@ -54,7 +54,7 @@ fn ended(rt: &impl Print, cases: usize) -> io::Result<()> {
 // Runs the next case. False where there is none, or where a file or a log is longer than is taken.
 fn one(rt: &impl Print, input: &mut impl Read, number: usize) -> io::Result<bool> {
     let mut head = [0u8; HEAD];
-    if fill(input, &mut head) < HEAD {
+    if stream::fill(input, &mut head) < HEAD {
         return Ok(false);
     }
     let table = reads::four(&head) as usize;
@@ -89,21 +89,7 @@ fn filled(input: &mut impl Read, buffer: &mut [u8], size: usize) -> usize
     ensures { (result ≤ length buffer.new) × (result ≡ length (take result buffer.new)) }
 {
     let n = text::within(buffer, size);
-    fill(input, &mut buffer[..n])
-}
-
-// Reads until the buffer is full, the input ends or a read fails, and gives how many bytes it put there.
-fn fill(input: &mut impl Read, buffer: &mut [u8]) -> usize
-    ensures { (result ≤ length buffer.new) × (result ≡ length (take result buffer.new)) }
-{
-    let mut done = 0;
-    while done < buffer.len() {
-        match input.read(&mut buffer[done..]) {
-            Ok(0) | Err(_) => break,
-            Ok(n) => done += n,
-        }
-    }
-    done
+    stream::fill(input, &mut buffer[..n])
 }
 
 fn headed(rt: &impl Print, number: usize) -> io::Result<()> {

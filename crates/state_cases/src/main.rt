@@ -9,12 +9,11 @@
 mod edits;
 mod same;
 
-ghost use Rattle.std.specs.Prelude.{◌≡◌, ◌≤◌, ◌<◌, IfOk, length, take};
+ghost use Rattle.std.specs.Prelude.{◌≤◌, ◌<◌, IfOk, length};
 
 use delivery::Delivered;
 use state::State;
 use std::io;
-use std::io::Read;
 use table::Table;
 
 const INPUT: usize = 65536;
@@ -30,22 +29,8 @@ const UNWRITTEN: u8 = 255;
 
 fn main(rt: HostRuntime) -> io::Result<()> {
     let mut input = [0u8; INPUT];
-    let n = fill(&mut rt.stdin(), &mut input);
+    let n = stream::fill(&mut rt.stdin(), &mut input);
     run(&rt, &input[..n])
-}
-
-// Reads until the buffer is full, the input ends or a read fails, and gives how many bytes it put there.
-fn fill(input: &mut impl Read, buffer: &mut [u8]) -> usize
-    ensures { (result ≤ length buffer.new) × (result ≡ length (take result buffer.new)) }
-{
-    let mut done = 0;
-    while done < buffer.len() {
-        match input.read(&mut buffer[done..]) {
-            Ok(0) | Err(_) => break,
-            Ok(n) => done += n,
-        }
-    }
-    done
 }
 
 // A case that is cut off ends the run.

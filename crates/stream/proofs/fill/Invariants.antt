@@ -1,6 +1,6 @@
 -- The count stays within the buffer, and each read that goes on adds to it.
 use Rattle.std.proofs.Common.{length, ◌-◌, ◌≤◌}
-use Rattle.read_cases.proofs.fill.Given as goal
+use Rattle.stream.proofs.fill.Given as goal
 
 abbrev pub invariant-loop-done : goal.invariant-loop-done
 invariant-loop-done g l = l.done ≤ length l.buffer
