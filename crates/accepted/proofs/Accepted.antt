@@ -1,4 +1,5 @@
 -- What is true of every table file that is accepted.
+use Rattle.std.specs.Prelude.{Ok, Err}
 use Prim.Native.Nat.{ℕ, ◌/◌, ◌%◌, ◌<◌, ◌≤◌}
 use mathlib.Core.Bool.{Bool, true, false, cond, ◌||◌, true≢false}
 use mathlib.Core.List.{List}
@@ -9,14 +10,14 @@ use lib.Dec.{eqb, ltb}
 use lib.ListN.{get_or, length}
 use borrow.Author.Tests.{eqb-false, ltb-false, le-leb}
 use Rattle.answers.specs.Answers.{is_done}
-use Rattle.answers.specs.declared.Answer.TheVariants.{Done, Missing}
+use Rattle.answers.specs.declared.Refusal.TheVariants.{Missing}
 use Rattle.laws.proofs.Numbers.{below_of, each_of}
-use Rattle.laws.proofs.Tests.{and-true, or_left, or_right}
+use Rattle.std.proofs.lemmas.Bool.{and_from, or_parts}
 use Rattle.table.specs.Tables.{cell_of}
 use Rattle.table.specs.declared.Table.{Table}
 use Rattle.soundness.specs.Sound.{task_entry_sound, most_at, moves_sound, vector_fits, gate_entry_sound, sound_table}
 use Rattle.soundness.proofs.Rows.{move_sound}
-use Rattle.reader.specs.Rules.{Loading}
+use Rattle.reader.specs.declared.Loading.{Loading}
 use Rattle.reader.specs.Reader.{refused_of, ended_of, read_of}
 use Rattle.reader.specs.declared.Loaded.{Loaded}
 use Rattle.reader.specs.declared.Progress.{Progress}
@@ -36,13 +37,13 @@ moves_sound_lem T l f = each_of (move_sound T) T.moves (λ (i : ℕ) (h : i < le
 sound_at_end : (at : ℕ) (T : Table) (p : Progress) → Reached at T p → (eqb p.kind 0 || ltb p.came T.tasks) ≡ false → sound_table T ≡ true
 unfolding sound_table
 sound_at_end at T p r h =
-    let k : p.kind ≡ 0 → ⊥ = eqb-false p.kind 0 (or_left (eqb p.kind 0) (ltb p.came T.tasks) h) in
-    let c : T.tasks ≤ p.came = ltb-false p.came T.tasks (or_right (eqb p.kind 0) (ltb p.came T.tasks) h) in
+    let k : p.kind ≡ 0 → ⊥ = eqb-false p.kind 0 ((or_parts (eqb p.kind 0) (ltb p.came T.tasks) h).0) in
+    let c : T.tasks ≤ p.came = ltb-false p.came T.tasks ((or_parts (eqb p.kind 0) (ltb p.came T.tasks) h).1) in
     let e : p.came ≡ T.tasks = omega (arith, r.came) in
-    and-true _ _ (r.counted k)
-    (and-true _ _ (below_of 16 (task_entry_sound T) (λ (t : ℕ) (_ : t < 16). rw e at (r.tasks_fit t)))
-    (and-true _ _ (moves_sound_lem T r.sized.moves r.moves_fit)
-    (below_of 16 (gate_entry_sound T) (λ (g : ℕ) (_ : g < 16). and-true _ _ (le-leb _ _ (r.counts_fit g)) (below_of 8 (vector_fits T.masks g (get_or T.vectors g 0) T.tasks) (r.masks_fit g))))))
+    and_from _ _ (r.counted k)
+    (and_from _ _ (below_of 16 (task_entry_sound T) (λ (t : ℕ) (_ : t < 16). rw e at (r.tasks_fit t)))
+    (and_from _ _ (moves_sound_lem T r.sized.moves r.moves_fit)
+    (below_of 16 (gate_entry_sound T) (λ (g : ℕ) (_ : g < 16). and_from _ _ (le-leb _ _ (r.counts_fit g)) (below_of 8 (vector_fits T.masks g (get_or T.vectors g 0) T.tasks) (r.masks_fit g))))))
 
 ended_done : (n : ℕ) (l : Loading) → is_done (ended_of n l).answer ≡ true
     → ((eqb l.progress.kind 0 || ltb l.progress.came l.table.tasks) ≡ false) × ((ended_of n l).table ≡ l.table)
@@ -50,9 +51,9 @@ unfolding ended_of
 ended_done n l d = turn (eqb l.progress.kind 0 || ltb l.progress.came l.table.tasks) refl d
   where
     turn : (t : Bool) → (eqb l.progress.kind 0 || ltb l.progress.came l.table.tasks) ≡ t
-        → is_done (cond t (refused_of Missing n) (record { table = l.table; answer = Done; place = n })).answer ≡ true
+        → is_done (cond t (refused_of (Err Missing) n) (record { table = l.table; answer = Ok tt; place = n })).answer ≡ true
         → ((eqb l.progress.kind 0 || ltb l.progress.came l.table.tasks) ≡ false)
-        × ((cond t (refused_of Missing n) (record { table = l.table; answer = Done; place = n })).table ≡ l.table)
+        × ((cond t (refused_of (Err Missing) n) (record { table = l.table; answer = Ok tt; place = n })).table ≡ l.table)
     turn true e d = absurd (true≢false (sym d))
     turn false e d = (e, refl)
 

@@ -1,4 +1,5 @@
 -- Two sound tables that behave alike are equal: what is absent is 0 in both.
+use Rattle.std.specs.Prelude.{Option, Some, None}
 use Prim.Native.Nat.{ℕ, ◌+◌, ◌*◌, ◌/◌, ◌%◌, ◌<◌, ◌≤◌}
 use mathlib.Core.Bool.{true}
 use mathlib.Core.Logic.{⊎_elim}
@@ -10,8 +11,6 @@ use borrow.Author.Tests.{lt-ltb}
 use Rattle.laws.proofs.Tests.{le_or_lt}
 use Rattle.table.specs.Tables.{is_cell, cell_of, move_of, mask_of}
 use Rattle.table.specs.declared.Table.{Table}
-use Rattle.table.specs.declared.Move.{Move}
-use Rattle.table.specs.declared.Move.TheVariants.{Nowhere, To}
 use Rattle.table.proofs.Cells.{is_cell_lem, entry_of, entry_at}
 use Rattle.soundness.specs.Sound.{sound_table}
 use Rattle.soundness.proofs.Rules.{Rules, sound_rules, below_by, Leads, move_leads}
@@ -44,13 +43,13 @@ module _ (T U : Table) (p : Rules T) (q : Rules U) (a : Alike T U) where
   same_move : (t x g : ℕ) → move_of T.moves t x g ≡ move_of U.moves t x g
   same_move t x g = turn (move_of T.moves t x g) (move_of U.moves t x g) refl refl
     where
-      turn : (m n : Move) → move_of T.moves t x g ≡ m → move_of U.moves t x g ≡ n → move_of T.moves t x g ≡ move_of U.moves t x g
-      turn Nowhere Nowhere d e = d ∙ sym e
-      turn Nowhere (To y) d e =
+      turn : (m n : Option ℕ) → move_of T.moves t x g ≡ m → move_of U.moves t x g ≡ n → move_of T.moves t x g ≡ move_of U.moves t x g
+      turn None None d e = d ∙ sym e
+      turn None (Some y) d e =
           let s : Leads U t x g y = move_leads U q t x g y e in
           let l : t < T.tasks = omega arith in
           a.moves t x g l (omega (arith, a.states t l)) (omega arith)
-      turn (To y) n d e = let s : Leads T t x g y = move_leads T p t x g y d in a.moves t x g s.task s.state s.gate
+      turn (Some y) n d e = let s : Leads T t x g y = move_leads T p t x g y d in a.moves t x g s.task s.state s.gate
 
   same_entry : (t x g : ℕ) → t < 16 → x < 16 → g < 16 → get_or T.moves (cell_of t x g) 0 ≡ get_or U.moves (cell_of t x g) 0
   same_entry t x g b c d =

@@ -11,8 +11,9 @@ use lib.ListN.{get_or, set, length, length-set}
 use lib.Seq.{get_or-set_same}
 use borrow.Author.Tests.{ltb-true, leb-true, leb-false, lt-ltb}
 use Rattle.laws.proofs.Numbers.{below_at, below_of, below_same}
-use Rattle.laws.proofs.Stores.{set_other}
-use Rattle.laws.proofs.Tests.{and_left, and_right, eq_or_ne, ltb_other}
+use Rattle.std.proofs.lemmas.List.{get_or-set_other}
+use Rattle.std.proofs.lemmas.Bool.{cases_eq, and_parts}
+use Rattle.laws.proofs.Tests.{ltb_other}
 use Rattle.numbers.specs.declared.GateNo.{GateNo}
 use Rattle.records.specs.declared.Record.TheVariants.{Vector}
 use Rattle.sets.specs.Sets.{all_below_of}
@@ -32,7 +33,7 @@ module _ (masks : List ℕ) (a n m : ℕ) (n8 : n < 8) where
 
   other_mask : (g v : ℕ) → v < 8 → (g ≡ a → v ≡ n → ⊥) → mask_of stored g v ≡ mask_of masks g v
   other_mask g v v8 ne =
-      rw (lt-ltb v 8 v8) (set_other masks (a * 8 + n) (g * 8 + v) m (λ (e : g * 8 + v ≡ a * 8 + n). ne (omega arith) (omega arith)))
+      rw (lt-ltb v 8 v8) (get_or-set_other masks (a * 8 + n) (g * 8 + v) m 0 (λ (e : g * 8 + v ≡ a * 8 + n). ne (omega arith) (omega arith)))
 
   new_mask : length masks ≡ 128 → a < 16 → mask_of stored a n ≡ m
   new_mask l h = rw (lt-ltb n 8 n8) (get_or-set_same masks (a * 8 + n) m 0 (omega arith))
@@ -74,8 +75,8 @@ module _ (T : Table) (a m : ℕ) (lv : length T.vectors ≡ 16) (lm : length T.m
   one_more_count : a < T.gates → CountsFit T → (g : ℕ) → get_or (set T.vectors a (n + 1)) g 0 ≤ cond (ltb g T.gates) 8 0
   one_more_count h f g = ⊎_elim
       (λ (e : g ≡ a). rw (e, get_or-set_same T.vectors a (n + 1) 0 (omega arith), lt-ltb a T.gates h) (omega arith))
-      (λ (e : g ≡ a → ⊥). rw (set_other T.vectors a g (n + 1) e) (f g))
-      (eq_or_ne g a)
+      (λ (e : g ≡ a → ⊥). rw (get_or-set_other T.vectors a g (n + 1) 0 e) (f g))
+      (cases_eq g a)
 
   one_more_mask : MasksFit T → not (eqb m 0) ≡ true → all_below_of m T.tasks ≡ true → new_below T.masks a 8 m ≡ true
       → MasksFit (with_masks T (set T.vectors a (n + 1)) (set T.masks (a * 8 + n) m))
@@ -83,10 +84,10 @@ module _ (T : Table) (a m : ℕ) (lv : length T.vectors ≡ 16) (lm : length T.m
       (λ (e : g ≡ a). rw (e, get_or-set_same T.vectors a (n + 1) 0 (omega arith)) (⊎_elim
       (λ (q : v ≡ n). rw q (new_vector T.masks a n m n8 T.tasks lm a16 mz mt mn))
       (λ (q : v ≡ n → ⊥). old_vector T.masks a n m n8 a v n (n + 1) T.tasks v8 (λ (_ : a ≡ a). q) (λ (_ : a ≡ a) (l : v < n + 1). below v n q l) (sym (ltb_other v n q)) (f a v v8))
-      (eq_or_ne v n)))
-      (λ (e : g ≡ a → ⊥). rw (set_other T.vectors a g (n + 1) e)
+      (cases_eq v n)))
+      (λ (e : g ≡ a → ⊥). rw (get_or-set_other T.vectors a g (n + 1) 0 e)
       (old_vector T.masks a n m n8 g v (get_or T.vectors g 0) (get_or T.vectors g 0) T.tasks v8 (λ (q : g ≡ a) (_ : v ≡ n). e q) (λ (q : g ≡ a) (_ : v < get_or T.vectors g 0). absurd (e q)) refl (f g v v8)))
-      (eq_or_ne g a)
+      (cases_eq g a)
     where
       below : (v n : ℕ) → (v ≡ n → ⊥) → v < n + 1 → v < n
       below v n q l = omega arith
@@ -102,10 +103,10 @@ vector_reached at T p g m r f =
     let C : Bool = all_below_of m T.tasks in
     let D : Bool = leb p.gate.0 a in
     let E : Bool = new_below T.masks a 8 m in
-    let s : (B && C) ≡ true = and_right A (B && C) f.range in
-    let x : a < T.gates = ltb-true a T.gates (and_left A (B && C) f.range) in
+    let s : (B && C) ≡ true = (and_parts A (B && C) f.range).1 in
+    let x : a < T.gates = ltb-true a T.gates ((and_parts A (B && C) f.range).0) in
     let y : n < 8 = leb-false 8 n f.few in
-    let z : p.gate.0 ≤ a = leb-true p.gate.0 a (and_left D E f.order) in
+    let z : p.gate.0 ≤ a = leb-true p.gate.0 a ((and_parts D E f.order).0) in
     let a16 : a < 16 = omega (arith, r.gates) in
     let used : 8 * p.gate.0 + get_or T.vectors p.gate.0 0 ≤ 8 * a + n = so_far (get_or T.vectors) r.counts_fit p.gate.0 a z in
     let begun : p.kind ≡ 0 → ⊥ = λ (q : p.kind ≡ 0). omega (arith, x, ap (λ (U : Table). U.gates) (r.begun q).0) in
@@ -126,7 +127,7 @@ vector_reached at T p g m r f =
       tasks_fit = r.tasks_fit;
       moves_fit = r.moves_fit;
       counts_fit = one_more_count T a m r.sized.vectors r.sized.masks a16 y x r.counts_fit;
-      masks_fit = one_more_mask T a m r.sized.vectors r.sized.masks a16 y r.masks_fit (and_left B C s) (and_right B C s) (and_right D E f.order);
+      masks_fit = one_more_mask T a m r.sized.vectors r.sized.masks a16 y r.masks_fit ((and_parts B C s).0) ((and_parts B C s).1) ((and_parts D E f.order).1);
       floor = r.floor;
       gate = a16;
       size = rw (get_or-set_same T.vectors a (n + 1) 0 (omega (arith, r.sized.vectors))) (omega (arith, r.size, system_le p.kind));

@@ -7,7 +7,7 @@ use lib.Dec.{ltb}
 use lib.ListN.{get_or, set, length-set}
 use borrow.Author.Tests.{ltb-true, leb-true, lt-ltb}
 use Rattle.laws.proofs.Stores.{set_at}
-use Rattle.laws.proofs.Tests.{and_left, and_right}
+use Rattle.std.proofs.lemmas.Bool.{and_parts}
 use Rattle.numbers.specs.declared.TaskNo.{TaskNo}
 use Rattle.numbers.specs.declared.GateNo.{GateNo}
 use Rattle.records.specs.declared.Record.TheVariants.{Transition}
@@ -43,12 +43,12 @@ transition_reached at T p t x g y r f =
     let B : Bool = ltb x n in
     let C : Bool = ltb g.0 T.gates in
     let D : Bool = ltb y n in
-    let q : (B && (C && D)) ≡ true = and_right A (B && (C && D)) f.range in
-    let s : (C && D) ≡ true = and_right B (C && D) q in
-    let a : t.0 < T.tasks = ltb-true t.0 T.tasks (and_left A (B && (C && D)) f.range) in
-    let b : x < n = ltb-true x n (and_left B (C && D) q) in
-    let c : g.0 < T.gates = ltb-true g.0 T.gates (and_left C D s) in
-    let d : y < n = ltb-true y n (and_right C D s) in
+    let q : (B && (C && D)) ≡ true = (and_parts A (B && (C && D)) f.range).1 in
+    let s : (C && D) ≡ true = (and_parts B (C && D) q).1 in
+    let a : t.0 < T.tasks = ltb-true t.0 T.tasks ((and_parts A (B && (C && D)) f.range).0) in
+    let b : x < n = ltb-true x n ((and_parts B (C && D) q).0) in
+    let c : g.0 < T.gates = ltb-true g.0 T.gates ((and_parts C D s).0) in
+    let d : y < n = ltb-true y n ((and_parts C D s).1) in
     let m : n ≤ 16 = states_le (ltb t.0 p.came) n (get_or T.starts t.0 0) (r.tasks_fit t.0) in
     let hx : x < 16 = omega arith in
     let hg : g.0 < 16 = omega (arith, r.gates) in

@@ -1,4 +1,5 @@
 -- What a record has passed that has no fault.
+use Rattle.std.specs.Prelude.{Ok, Err}
 use Prim.Native.Nat.{ℕ, suc, zero, ◌+◌, ◌-◌}
 use mathlib.Core.Bool.{Bool, true, false, cond, ◌&&◌, not, true≢false}
 use mathlib.Core.List.{List}
@@ -7,15 +8,15 @@ use native.Mathlib.Omega.{arith}
 use lib.Dec.{eqb, ltb, leb}
 use lib.ListN.{length}
 use borrow.Author.Tests.{not-false, leb-true}
-use Rattle.answers.specs.Answers.{is_done}
-use Rattle.answers.specs.declared.Answer.{Answer}
-use Rattle.answers.specs.declared.Answer.TheVariants.{Done, CutOff, Kind, BodyLength, FieldRange, Order, Missing, TooMany}
+use Rattle.answers.specs.Answers.{is_done, Answer}
+use Rattle.answers.specs.declared.Refusal.TheVariants.{CutOff, Kind, BodyLength, FieldRange, Order, Missing, TooMany}
 use Rattle.format.specs.Format.{body_length_of, word_at, kind_at, size_at, head_fault}
-use Rattle.laws.proofs.Tests.{and_left, and_right}
+use Rattle.std.proofs.lemmas.Bool.{and_parts}
 use Rattle.records.specs.Records.{record_at}
 use Rattle.records.specs.declared.Record.{Record}
 use Rattle.records.specs.declared.Record.TheVariants.{System, Task, Transition, Vector}
-use Rattle.reader.specs.Rules.{Loading, allowed_kind, kind_fault, in_range, is_ninth, in_order, field_fault}
+use Rattle.reader.specs.declared.Loading.{Loading}
+use Rattle.reader.specs.Rules.{allowed_kind, kind_fault, in_range, is_ninth, in_order, field_fault}
 use Rattle.reader.specs.Reader.{fault_at}
 use Rattle.reader.specs.declared.Progress.{Progress}
 
@@ -46,23 +47,23 @@ pub record Fields (l : Loading) (r : Record) : Type 0 where
 pub fields_passed : (l : Loading) (r : Record) → is_done (field_fault l r) ≡ true → Fields l r
 unfolding field_fault
 fields_passed l r d =
-    let p = passed (not (in_range l.table r)) FieldRange (cond (is_ninth l.table r) TooMany (cond (not (in_order l r)) Order Done)) refl d in
-    let q = passed (is_ninth l.table r) TooMany (cond (not (in_order l r)) Order Done) refl p.1 in
-    let s = passed (not (in_order l r)) Order Done refl q.1 in
+    let p = passed (not (in_range l.table r)) (Err FieldRange) (cond (is_ninth l.table r) (Err TooMany) (cond (not (in_order l r)) (Err Order) (Ok tt))) refl d in
+    let q = passed (is_ninth l.table r) (Err TooMany) (cond (not (in_order l r)) (Err Order) (Ok tt)) refl p.1 in
+    let s = passed (not (in_order l r)) (Err Order) (Ok tt) refl q.1 in
     record { range = not-false (in_range l.table r) p.0; few = q.0; order = not-false (in_order l r) s.0 }
 
 head_passed : (file : List ℕ) (at : ℕ) (kind : Answer) → is_done (head_fault file at kind) ≡ true → is_done kind ≡ true
 unfolding head_fault
 head_passed file at kind d =
     let n : ℕ = size_at file at in
-    let rest : Answer = cond (not (eqb (4 + word_at file at) n)) BodyLength (cond (ltb (length file - at) n) CutOff Done) in
-    judged kind rest (passed (ltb (length file - at) 4) CutOff (cond (not (is_done kind)) kind rest) refl d).1
+    let rest : Answer = cond (not (eqb (4 + word_at file at) n)) (Err BodyLength) (cond (ltb (length file - at) n) (Err CutOff) (Ok tt)) in
+    judged kind rest (passed (ltb (length file - at) 4) (Err CutOff) (cond (not (is_done kind)) kind rest) refl d).1
 
 kind_passed : (tasks : ℕ) (p : Progress) (k : ℕ) → is_done (kind_fault tasks p k) ≡ true → allowed_kind p.kind k ≡ true
 unfolding kind_fault
 kind_passed tasks p k d =
     not-false (allowed_kind p.kind k)
-    (passed (not (allowed_kind p.kind k)) Kind (cond (ltb 2 k && ltb p.came tasks) Missing Done) refl d).0
+    (passed (not (allowed_kind p.kind k)) (Err Kind) (cond (ltb 2 k && ltb p.came tasks) (Err Missing) (Ok tt)) refl d).0
 
 -- the kind of a record that was read
 abbrev pub kind_of : Record → ℕ
@@ -84,7 +85,7 @@ by_kind (suc (suc zero)) x y z w a b c d h = b
 by_kind (suc (suc (suc zero))) x y z w a b c d h = c
 by_kind (suc (suc (suc (suc zero)))) x y z w a b c d h = d
 by_kind (suc (suc (suc (suc (suc k))))) x y z w a b c d h =
-    absurd (omega (arith, leb-true (suc (suc (suc (suc (suc k))))) 4 (and_right (leb 1 (suc (suc (suc (suc (suc k)))))) (leb (suc (suc (suc (suc (suc k))))) 4) h)))
+    absurd (omega (arith, leb-true (suc (suc (suc (suc (suc k))))) 4 ((and_parts (leb 1 (suc (suc (suc (suc (suc k)))))) (leb (suc (suc (suc (suc (suc k))))) 4) h).1)))
 
 same_kind : (file : List ℕ) (at : ℕ) → (leb 1 (kind_at file at) && leb (kind_at file at) 4) ≡ true → kind_of (record_at file at) ≡ kind_at file at
 unfolding record_at
@@ -96,5 +97,5 @@ passes file at l d =
     let k : ℕ = kind_at file at in
     let b = both (head_fault file at (kind_fault l.table.tasks l.progress k)) (field_fault l (record_at file at)) d in
     let a : allowed_kind l.progress.kind k ≡ true = kind_passed l.table.tasks l.progress k (head_passed file at (kind_fault l.table.tasks l.progress k) b.0) in
-    let e : kind_of (record_at file at) ≡ k = same_kind file at (and_left _ _ a) in
+    let e : kind_of (record_at file at) ≡ k = same_kind file at ((and_parts _ _ a).0) in
     record { allowed = rw e a; fields = fields_passed l (record_at file at) b.1; size = rw e }

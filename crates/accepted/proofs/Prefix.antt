@@ -8,17 +8,17 @@ use native.Mathlib.Omega.{arith}
 use lib.ListN.{get_or, length, take}
 use lib.Seq.{get_or-take, length-take-le}
 use borrow.Author.Tests.{le-ltb}
-use Rattle.answers.specs.Answers.{is_done}
-use Rattle.answers.specs.declared.Answer.{Answer}
+use Rattle.answers.specs.Answers.{is_done, Answer}
 use Rattle.format.specs.Format.{size_at, kind_at, head_fault}
 use Rattle.format.specs.Walk.{walk}
 use Rattle.format.proofs.Sizes.{size_le}
 use Rattle.format.proofs.Walks.{step_more, step_refused}
-use Rattle.laws.proofs.Tests.{true_or_false}
+use Rattle.std.proofs.lemmas.Bool.{cases_Bool}
 use Rattle.records.specs.Records.{record_at}
 use Rattle.table.specs.Tables.{empty_table}
 use Rattle.reader.specs.Parts.{loading, none_came}
-use Rattle.reader.specs.Rules.{Loading, kind_fault}
+use Rattle.reader.specs.declared.Loading.{Loading}
+use Rattle.reader.specs.Rules.{kind_fault}
 use Rattle.reader.specs.Reader.{fault_at, with_record_at, refused_of, ended_of, read_of}
 use Rattle.accepted.proofs.Reached.{furthest}
 use Rattle.accepted.proofs.Records.{Held, keeps}
@@ -86,7 +86,7 @@ module _ (one other : List ℕ) (l₁ : 40000 ≤ length one) (l₂ : 40000 ≤ 
       step_refused one (fault_at one) (with_record_at one) refused_of (ended_of (length one)) m at l (omega arith) (rw e d)
       ∙ ap (λ (x : Answer). refused_of x at) e
       ∙ sym (step_refused other (fault_at other) (with_record_at other) refused_of (ended_of (length other)) n at l (omega arith) d))
-      (true_or_false (is_done (fault_at other at l)))
+      (cases_Bool (is_done (fault_at other at l)))
 
 -- "first 40,000 bytes; any longer file earns the same refusal from those"
 pub first_bytes : (file : List ℕ) → 40000 ≤ length file → read_of (take 40000 file) ≡ read_of file

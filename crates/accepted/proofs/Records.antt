@@ -14,7 +14,8 @@ use Rattle.records.specs.declared.Record.TheVariants.{System, Task, Transition, 
 use Rattle.table.specs.Tables.{empty_table}
 use Rattle.table.specs.declared.Table.{Table}
 use Rattle.reader.specs.Parts.{loading, none_came}
-use Rattle.reader.specs.Rules.{Loading, allowed_kind, with_record, after_record}
+use Rattle.reader.specs.declared.Loading.{Loading}
+use Rattle.reader.specs.Rules.{allowed_kind, with_record, after_record}
 use Rattle.reader.specs.Reader.{fault_at, with_record_at, refused_of, ended_of, read_of}
 use Rattle.reader.specs.declared.Progress.{Progress}
 use Rattle.accepted.proofs.Passed.{Fields, Passes, kind_of, passes}

@@ -8,8 +8,10 @@ use lib.Dec.{eqb, ltb, eqb-suc-zero}
 use lib.ListN.{get_or, length-set}
 use lib.Seq.{get_or-set_same}
 use borrow.Author.Tests.{ltb-true, eqb-true, lt-ltb, le-ltb}
-use Rattle.laws.proofs.Stores.{set_at, set_other, zero_at}
-use Rattle.laws.proofs.Tests.{and_left, and_right, eq_or_ne, ltb_other}
+use Rattle.laws.proofs.Stores.{set_at, zero_at}
+use Rattle.std.proofs.lemmas.List.{get_or-set_other}
+use Rattle.std.proofs.lemmas.Bool.{cases_eq, and_parts}
+use Rattle.laws.proofs.Tests.{ltb_other}
 use Rattle.numbers.specs.declared.TaskNo.{TaskNo}
 use Rattle.records.specs.declared.Record.TheVariants.{System, Task}
 use Rattle.table.specs.Tables.{count_in, cell_of, mask_of, empty_table, with_counts, with_states}
@@ -61,8 +63,8 @@ unfolding in_range with_record after_record
 system_reached at T p a b r k f =
     let z = r.begun (first_kind p.kind k) in
     let c : (count_in a && count_in b) ≡ true = f.range in
-    let x : a ≤ 16 = count_most a (and_left (count_in a) (count_in b) c) in
-    let y : b ≤ 16 = count_most b (and_right (count_in a) (count_in b) c) in
+    let x : a ≤ 16 = count_most a ((and_parts (count_in a) (count_in b) c).0) in
+    let y : b ≤ 16 = count_most b ((and_parts (count_in a) (count_in b) c).1) in
     let s : at ≤ 0 = omega (arith, rw (z.0, z.1) at r.size, zero_at 16 0) in
     rw (z.0, z.1) (counted_reached (at + 6) a b 1 x y (omega arith) (λ (e : ◌≡◌ {A = ℕ} 1 0). absurd (omega arith)) (λ n. c))
 
@@ -70,8 +72,8 @@ module _ (T : Table) (n states start : ℕ) (s : Sized T) (room : n < 16) where
   one_more_task : TasksFit T n → (count_in states && ltb start states) ≡ true → TasksFit (with_states T n states start) (n + 1)
   one_more_task f h t = ⊎_elim
       (λ (e : t ≡ n). rw (e, lt-ltb n (n + 1) (omega arith), get_or-set_same T.states n states 0 (omega (arith, s.states)), get_or-set_same T.starts n start 0 (omega (arith, s.starts))) h)
-      (λ (e : t ≡ n → ⊥). rw (ltb_other t n e, set_other T.states n t states e, set_other T.starts n t start e) (f t))
-      (eq_or_ne t n)
+      (λ (e : t ≡ n → ⊥). rw (ltb_other t n e, get_or-set_other T.states n t states 0 e, get_or-set_other T.starts n t start 0 e) (f t))
+      (cases_eq t n)
 
   -- an absent task has no moves, so that its new states allow them
   moves_of_others : MovesFit T → get_or T.states n 0 ≡ 0 → MovesFit (with_states T n states start)
@@ -93,13 +95,13 @@ pub task_reached : (at : ℕ) (T : Table) (p : Progress) (t : TaskNo) (states st
 unfolding in_range in_order with_record after_record
 task_reached at T p t states start r f =
     let n : ℕ = t.0 in
-    let a : n < T.tasks = ltb-true n T.tasks (and_left (ltb n T.tasks) (count_in states && ltb start states) f.range) in
-    let c : (count_in states && ltb start states) ≡ true = and_right (ltb n T.tasks) (count_in states && ltb start states) f.range in
+    let a : n < T.tasks = ltb-true n T.tasks ((and_parts (ltb n T.tasks) (count_in states && ltb start states) f.range).0) in
+    let c : (count_in states && ltb start states) ≡ true = (and_parts (ltb n T.tasks) (count_in states && ltb start states) f.range).1 in
     let e : n ≡ p.came = eqb-true n p.came f.order in
     let room : n < 16 = omega (arith, r.tasks) in
     let begun : p.kind ≡ 0 → ⊥ = λ (q : p.kind ≡ 0). omega (arith, a, ap (λ (U : Table). U.tasks) (r.begun q).0) in
     let old : TasksFit T n = rw e r.tasks_fit in
-    let z : get_or T.states n 0 ≡ 0 = eqb-true (get_or T.states n 0) 0 (and_left (eqb (get_or T.states n 0) 0) (eqb (get_or T.starts n 0) 0) (rw (le-ltb n n (omega arith)) at (old n))) in
+    let z : get_or T.states n 0 ≡ 0 = eqb-true (get_or T.states n 0) 0 ((and_parts (eqb (get_or T.states n 0) 0) (eqb (get_or T.starts n 0) 0) (rw (le-ltb n n (omega arith)) at (old n))).0) in
     record {
       begun = λ (q : ◌≡◌ {A = ℕ} 2 0). absurd (omega arith);
       counted = λ (q : ◌≡◌ {A = ℕ} 2 0 → ⊥). r.counted begun;

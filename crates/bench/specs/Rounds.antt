@@ -1,26 +1,26 @@
 -- The rounds of a measurement, each from a fresh line on, and with the log as the one before left it.
-use Rattle.std.specs.Prelude.{ℕ, cond, List, [], eqb}
+use Rattle.std.specs.Prelude.{ℕ, cond, List, eqb}
 use Rattle.laws.specs.Turns.{up_to}
 use Rattle.fresh.specs.Fresh.{fresh}
-use Rattle.run.specs.Run.{Course, course_begun, course, delivered_by, ran_of, stepped_by}
-use Rattle.run.specs.declared.Ran.{Ran}
+use Rattle.run.specs.Run.{Course, course_begun, course, delivered_by, stepped_by}
 use Rattle.state.specs.States.{empty_state}
-use Rattle.state.specs.declared.State.{State}
 use Rattle.table.specs.declared.Table.{Table}
+use Rattle.bench.specs.declared.rounds.Mode.{Mode}
+use Rattle.bench.specs.declared.rounds.Mode.TheVariants.{Idle, Unchecked, Checked}
 
--- a line to which nothing was delivered
-abbrev pub rested : State → Ran
-rested s = ran_of (course_begun s [])
+-- mode 1 does not ask number 11, mode 2 does, and any other makes no delivery
+abbrev pub mode_of : ℕ → Mode
+mode_of number = cond (eqb number 1) Unchecked (cond (eqb number 2) Checked Idle)
 
-module _ (mode : ℕ) (T : Table) (file : List ℕ) (count : ℕ) where
-  -- mode 2 asks number 11 in each delivery, mode 1 does not ask it again, and any other makes no delivery
-  abbrev pub course_of : Course → Course
-  course_of c =
-      cond (eqb mode 2) (course (delivered_by T) file count c)
-      (course (stepped_by T.moves T.vectors T.masks T.tasks T.gates) file (cond (eqb mode 1) count 0) c)
+module _ (T : Table) (file : List ℕ) (count : ℕ) where
+  abbrev pub course_of : Mode → Course → Course
+  course_of Idle c = c
+  course_of Unchecked c = course (stepped_by T.moves T.vectors T.masks T.tasks T.gates) file count c
+  course_of Checked c = course (delivered_by T) file count c
 
+module _ (mode : Mode) (T : Table) (file : List ℕ) (count : ℕ) where
   unfoldable pub round_of : List ℕ → Course
-  round_of log = course_of (course_begun (fresh T).state log)
+  round_of log = course_of T file count mode (course_begun (fresh T).state log)
 
   abbrev pub turn_of : ℕ → Course → Course
   turn_of i c = round_of c.log

@@ -7,96 +7,98 @@
 
 mod rounds;
 
-ghost use Rattle.std.specs.Prelude.{◌≤◌, IfOk, length};
+ghost use Rattle.std.specs.Prelude.{◌<◌, IfSome, length};
 
+use rounds::Mode;
 use std::io;
+use text::Sheet;
 
 const INPUT: usize = 262144;
-
-// The bytes of a line before its two files.
-const HEAD: usize = 13;
 
 const LOG: usize = 20000;
 
 // Room for all that is printed of a log of that length.
 const TEXT: usize = 400200;
 
+#[derive(Clone, Copy, Debug)]
+struct Line<'a> {
+    mode: Mode,
+    rounds: usize,
+    file: &'a [u8],
+    schedule: &'a [u8],
+}
+
 fn main(rt: HostRuntime) -> io::Result<()> {
     let mut input = [0u8; INPUT];
     let n = stream::fill(&mut rt.stdin(), &mut input);
-    lines(&rt, &input[..n])
-}
-
-fn lines(rt: &impl Print, input: &[u8]) -> io::Result<()> {
-    let mut at = 0;
-    while at < input.len() {
-        let size = one(rt, &input[at..])?;
-        if size == 0 {
-            return Ok(());
-        }
-        at += size;
+    let mut rest = &input[..n];
+    // Each program of cases has this loop: one for all would ask something of the closure that it calls.
+    while let Some((line, behind)) = line_of(rest) {
+        measure(&rt, line)?;
+        rest = behind;
     }
     Ok(())
 }
 
-// Runs the line that `rest` begins with, and answers how many bytes it has, or 0 where it is cut off.
-fn one(rt: &impl Print, rest: &[u8]) -> io::Result<usize>
-    ensures { IfOk result (λ size. size ≤ length rest.now) }
+// The line that `rest` begins with, and what stands behind it. None where it is cut off.
+fn line_of(rest: &[u8]) -> Option<(Line<'_>, &[u8])>
+    ensures { IfSome result (λ p. length p.1.now < length rest.now) }
 {
-    if rest.len() < HEAD {
-        return Ok(0);
-    }
-    let schedule = HEAD + reads::four(&rest[5..]) as usize;
-    let end = schedule + reads::four(&rest[9..]) as usize;
-    if rest.len() < end {
-        return Ok(0);
-    }
+    let (&[mode], rest) = rest.split_first_chunk::<1>()?;
+    let (&rounds, rest) = rest.split_first_chunk::<4>()?;
+    let (&file, rest) = rest.split_first_chunk::<4>()?;
+    let (&schedule, rest) = rest.split_first_chunk::<4>()?;
+    let (file, rest) = rest.split_at_checked(u32::from_le_bytes(file) as usize)?;
+    let (schedule, rest) = rest.split_at_checked(u32::from_le_bytes(schedule) as usize)?;
+    let line = Line {
+        mode: Mode::from(mode),
+        rounds: u32::from_le_bytes(rounds) as usize,
+        file,
+        schedule,
+    };
+    Some((line, rest))
+}
+
+fn measure(rt: &impl Print, line: Line<'_>) -> io::Result<()> {
     let mut log = [0u8; LOG];
     let mut text = [0u8; TEXT];
-    let typed = print(
-        rest[0],
-        reads::four(&rest[1..]) as usize,
-        &rest[HEAD..schedule],
-        &rest[schedule..end],
-        &mut log,
-        &mut text,
-    );
+    let typed = print(line, &mut log, &mut text);
     let typed = text::within(&text, typed);
-    rt.write_all(&text[..typed])?;
-    Ok(end)
+    rt.write_all(&text[..typed])
 }
 
 // Runs a line so many times, and types what the last round left. Gives back where the text ends.
-fn print<'a>(
-    mode: u8,
-    rounds: usize,
-    file: &'a [u8],
-    schedule: &'a [u8],
-    log: &'a mut [u8],
-    text: &'a mut [u8],
-) -> usize {
-    let loaded = reader::read(file);
-    let answer = loaded.answer;
-    if !answers::is_done(answer) {
-        return report::refusal(text, 0, answers::number(answer), loaded.place);
+fn print(line: Line<'_>, log: &mut [u8], text: &mut [u8]) -> usize {
+    let mut sheet = Sheet { bytes: text, at: 0 };
+    let loaded = reader::read(line.file);
+    if loaded.answer.is_err() {
+        report::refusal(&mut sheet, answers::number(loaded.answer), loaded.place);
+        return sheet.at;
     }
-    let listed = schedule::read(schedule);
-    let answer = listed.answer;
-    if !answers::is_done(answer) {
-        return report::refusal(text, 0, answers::number(answer), listed.place);
+    let listed = schedule::read(line.schedule);
+    if listed.answer.is_err() {
+        report::refusal(&mut sheet, answers::number(listed.answer), listed.place);
+        return sheet.at;
     }
     let table = loaded.table;
-    let ran = rounds::repeated(mode, table, log, schedule, listed.count, rounds);
-    let answer = ran.answer;
+    let ran = rounds::repeated(
+        line.mode,
+        table,
+        log,
+        line.schedule,
+        listed.count,
+        line.rounds,
+    );
     let after = ran.state;
     report::report(
-        text,
+        &mut sheet,
         &table.masks,
         table.tasks,
-        answers::number(answer),
+        answers::number(ran.answer),
         ran.made,
         quiet::quiet(after),
         after,
         log,
-    )
+    );
+    sheet.at
 }

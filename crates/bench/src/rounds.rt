@@ -1,101 +1,93 @@
 // The rounds of a measurement.
-ghost use Rattle.std.specs.Prelude.{cond, ◌≡◌};
+ghost use Rattle.std.specs.Prelude.{◌≡◌};
 ghost use Rattle.run.specs.Run.{course_begun, course, delivered_by, ran_of};
-ghost use Rattle.bench.specs.Rounds.{rested, round_of, rounds_of};
+ghost use Rattle.bench.specs.Rounds.{mode_of, round_of, rounds_of};
 
-use answers::Answer;
 use run::Ran;
 use state::State;
 use table::Table;
 
+// What a round does: no delivery, all of them, or all of them with the check of number 11 in each.
+#[derive(Clone, Copy, Debug, PartialEq, Eq)]
+pub enum Mode {
+    Idle,
+    Unchecked,
+    Checked,
+}
+
+impl From<u8> for Mode {
+    fn from(number: u8) -> Self
+        ensures { result ≡ mode_of number }
+    {
+        match number {
+            1 => Mode::Unchecked,
+            2 => Mode::Checked,
+            _ => Mode::Idle,
+        }
+    }
+}
+
 // So many rounds, and what the last of them left.
-pub fn repeated<'a>(
-    mode: u8,
+#[tactic(auto, unfolding(crate::specs::Rounds::rounds_of))]
+pub fn repeated(
+    mode: Mode,
     table: Table,
-    log: &'a mut [u8],
-    schedule: &'a [u8],
+    log: &mut [u8],
+    schedule: &[u8],
     count: usize,
     rounds: usize,
 ) -> Ran
     ensures state { result ≡ ran_of (rounds_of mode table schedule.now count rounds log.old) }
     ensures bytes { log.new ≡ (rounds_of mode table schedule.now count rounds log.old).log }
 {
-    let mut ran = rested(State::empty());
-    let mut i = 0;
-    while i < rounds {
+    let mut ran = Ran {
+        state: State::empty(),
+        answer: Ok(()),
+        made: 0,
+    };
+    for _ in 0..rounds {
         ran = round(mode, table, log, schedule, count);
-        i += 1;
     }
     ran
 }
 
 // One round, from a fresh line on.
-#[tactic(auto, unfolding(crate::specs::Rounds::round_of))]
-fn round<'a>(mode: u8, table: Table, log: &'a mut [u8], schedule: &'a [u8], count: usize) -> Ran
+#[tactic(auto, unfolding(crate::specs::Rounds::round_of, run::specs::Run::course))]
+fn round(mode: Mode, table: Table, log: &mut [u8], schedule: &[u8], count: usize) -> Ran
     ensures state { result ≡ ran_of (round_of mode table schedule.now count log.old) }
     ensures bytes { log.new ≡ (round_of mode table schedule.now count log.old).log }
 {
     let started = fresh::fresh(table);
-    let s = started.state;
-    if mode == 2 {
-        return delivered(table, s, log, schedule, count);
-    }
-    run::run(
-        &table.moves,
-        &table.vectors,
-        &table.masks,
-        table.tasks,
-        table.gates,
-        s,
-        log,
-        schedule,
-        limit(mode == 1, count),
-    )
+    let count = match mode {
+        Mode::Checked => return delivered(table, started.state, log, schedule, count),
+        Mode::Unchecked => count,
+        Mode::Idle => 0,
+    };
+    run::run(table.rules(), started.state, log, schedule, count)
 }
 
-// All of them, or none.
-fn limit(all: bool, count: usize) -> usize
-    ensures { result ≡ cond all count 0 }
-{
-    if all { count } else { 0 }
-}
-
-// A line to which nothing was delivered.
-fn rested(state: State) -> Ran
-    ensures { result ≡ rested state }
-{
-    Ran {
-        state,
-        answer: Answer::Done,
-        made: 0,
-    }
-}
-
-// Makes the deliveries of a schedule in turn until one is refused, and asks number 11 in each.
-fn delivered<'a>(table: Table, s: State, log: &'a mut [u8], schedule: &'a [u8], count: usize) -> Ran
+// Makes the deliveries of a schedule in turn until one is refused, and asks number 11 in each. `run` has
+// this loop with a step in place, which is what is measured beside it.
+#[tactic(auto, unfolding(run::specs::Run::course))]
+fn delivered(table: Table, mut s: State, log: &mut [u8], schedule: &[u8], count: usize) -> Ran
     ensures state { result ≡ ran_of (course (delivered_by table) schedule.now count (course_begun s log.old)) }
     ensures bytes { log.new ≡ (course (delivered_by table) schedule.now count (course_begun s log.old)).log }
 {
-    let mut s = s;
-    let mut answer = Answer::Done;
-    let mut i = 0;
-    while i < count {
+    for i in 0..count {
         let d = schedule::delivery_at(schedule, i);
         let r = delivery::deliver(table, s, log, d.from, d.to);
-        answer = r.answer;
         s = r.state;
-        if !answers::is_done(answer) {
+        if let Err(refusal) = r.answer {
             return Ran {
                 state: s,
-                answer,
+                answer: Err(refusal),
                 made: i,
             };
         }
-        i += 1;
     }
     Ran {
         state: s,
-        answer,
+        answer: Ok(()),
         made: count,
     }
 }

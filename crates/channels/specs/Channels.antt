@@ -1,5 +1,5 @@
 -- "a first-in first-out channel .. Unused room holds a fixed filler."
-use Rattle.std.specs.Prelude.{◌-◌, Bool, true, false, cond, eqb}
+use Rattle.std.specs.Prelude.{ℕ, ◌-◌, Bool, true, false, cond, eqb, Option, Some, None}
 use Rattle.channels.specs.declared.Request.{Request}
 use Rattle.channels.specs.declared.Message.{Message}
 use Rattle.channels.specs.declared.Message.TheVariants.{Ready, Lock, Commit, Abort}
@@ -21,6 +21,10 @@ empty1 = record { count = 0; first = Ready }
 
 abbrev pub empty3 : Channel3
 empty3 = record { count = 0; first = Ready; second = Ready; third = Ready }
+
+-- "It takes the oldest message of the channel named": the front of a channel of n messages, the first of them m
+abbrev pub front_of : ℕ → Message → Option Message
+front_of n m = cond (eqb n 0) None (Some m)
 
 -- without the oldest message; of a channel for one message nothing is left
 abbrev pub popped3 : Channel3 → Channel3

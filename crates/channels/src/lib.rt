@@ -2,19 +2,20 @@
 // a message writes it back.
 #![tactic(auto)]
 
-ghost use Rattle.std.specs.Prelude.{◌≡◌, ◌-◌};
-ghost use Rattle.channels.specs.Channels.{no_request, is_ready, empty1, empty3, popped3, put1, put3, ends_ready};
+ghost use Rattle.std.specs.Prelude.{◌≡◌, ℕ, ltb, true, refl};
+ghost use Rattle.channels.specs.Channels.{no_request, is_ready, front_of, empty1, empty3, popped3, put1, put3, ends_ready};
+ghost use Rattle.channels.specs.declared.Message.{Message};
 
 use numbers::GateNo;
 
 // What a LOCK asks for.
-#[derive(Clone, Copy)]
+#[derive(Clone, Copy, Debug, PartialEq, Eq)]
 pub struct Request {
     pub gate: GateNo,
     pub vector: u8,
 }
 
-#[derive(Clone, Copy)]
+#[derive(Clone, Copy, Debug, PartialEq, Eq)]
 pub enum Message {
     Ready,
     Lock(Request),
@@ -22,15 +23,72 @@ pub enum Message {
     Abort(GateNo),
 }
 
+// What the channels of both sizes have. A full channel stays as it is.
+pub trait Channel: Copy + Drop {
+    ghost ROOM: { ℕ };
+
+    ghost empty: { Self };
+
+    ghost count: { Self → ℕ };
+
+    ghost first: { Self → Message };
+
+    ghost popped: { Self → Self };
+
+    ghost put: { Self → Message → Self };
+
+    const ROOM: u8;
+
+    fn empty() -> Self
+        ensures { result ≡ empty };
+
+    fn count(self) -> u8
+        ensures { result ≡ count self };
+
+    // The oldest message, or the filler.
+    fn first(self) -> Message
+        ensures { result ≡ first self };
+
+    // Without its oldest message.
+    fn popped(self) -> Self
+        ensures { result ≡ popped self };
+
+    fn put(self, message: Message) -> Self
+        ensures { result ≡ put self message };
+
+    fn front(self) -> Option<Message>
+        ensures { result ≡ front_of (count self) (first self) }
+    {
+        if self.count() == 0 {
+            None
+        } else {
+            Some(self.first())
+        }
+    }
+
+    fn has_room(self) -> bool
+        ensures { result ≡ ltb (count self) ROOM }
+    {
+        self.count() < Self::ROOM
+    }
+
+    ghost empty_has_none: { count empty ≡ 0 };
+
+    ghost empty_has_room: { ltb (count empty) ROOM ≡ true };
+}
+
+// Two structs with named places, and not one with an array: `delivery_keeps_sound` asks of a state how long
+// its lists are, and would have to ask of each channel how many places it has.
+
 // From a gate to a task and from a task to a task there is room for one message.
-#[derive(Clone, Copy)]
+#[derive(Clone, Copy, Debug, PartialEq, Eq)]
 pub struct Channel1 {
     pub count: u8,
     pub first: Message,
 }
 
 // From a task to a gate there is room for three. The first is the oldest.
-#[derive(Clone, Copy)]
+#[derive(Clone, Copy, Debug, PartialEq, Eq)]
 pub struct Channel3 {
     pub count: u8,
     pub first: Message,
@@ -52,17 +110,30 @@ impl Message {
     pub fn is_ready(self) -> bool
         ensures { result ≡ is_ready self }
     {
-        match self {
-            Message::Ready => true,
-            Message::Lock(_) => false,
-            Message::Commit(_) => false,
-            Message::Abort(_) => false,
-        }
+        matches!(self, Message::Ready)
     }
 }
 
-impl Channel1 {
-    pub fn empty() -> Self
+impl Channel for Channel1 {
+    ghost ROOM = { 1 };
+
+    ghost empty = { empty1 };
+
+    ghost count = { λ c. c.count };
+
+    ghost first = { λ c. c.first };
+
+    ghost popped = { λ c. empty1 };
+
+    ghost put = { put1 };
+
+    ghost empty_has_none = { refl };
+
+    ghost empty_has_room = { refl };
+
+    const ROOM: u8 = 1;
+
+    fn empty() -> Self
         ensures { result ≡ empty1 }
     {
         Channel1 {
@@ -71,22 +142,58 @@ impl Channel1 {
         }
     }
 
-    // A full channel stays as it is.
-    pub fn put(self, message: Message) -> Self
+    fn count(self) -> u8
+        ensures { result ≡ self.count }
+    {
+        self.count
+    }
+
+    fn first(self) -> Message
+        ensures { result ≡ self.first }
+    {
+        self.first
+    }
+
+    fn popped(self) -> Self
+        ensures { result ≡ empty1 }
+    {
+        Channel1::empty()
+    }
+
+    fn put(self, message: Message) -> Self
         ensures { result ≡ put1 self message }
     {
         if self.count == 0 {
-            return Channel1 {
+            Channel1 {
                 count: 1,
                 first: message,
-            };
+            }
+        } else {
+            self
         }
-        self
     }
 }
 
-impl Channel3 {
-    pub fn empty() -> Self
+impl Channel for Channel3 {
+    ghost ROOM = { 3 };
+
+    ghost empty = { empty3 };
+
+    ghost count = { λ c. c.count };
+
+    ghost first = { λ c. c.first };
+
+    ghost popped = { popped3 };
+
+    ghost put = { put3 };
+
+    ghost empty_has_none = { refl };
+
+    ghost empty_has_room = { refl };
+
+    const ROOM: u8 = 3;
+
+    fn empty() -> Self
         ensures { result ≡ empty3 }
     {
         Channel3 {
@@ -97,79 +204,63 @@ impl Channel3 {
         }
     }
 
-    // Without its oldest message.
-    pub fn popped(self) -> Self
+    fn count(self) -> u8
+        ensures { result ≡ self.count }
+    {
+        self.count
+    }
+
+    fn first(self) -> Message
+        ensures { result ≡ self.first }
+    {
+        self.first
+    }
+
+    fn popped(self) -> Self
         ensures { result ≡ popped3 self }
     {
-        let second = self.second;
-        let third = self.third;
         Channel3 {
-            count: one_less(self.count),
-            first: second,
-            second: third,
+            count: self.count.saturating_sub(1),
+            first: self.second,
+            second: self.third,
             third: Message::Ready,
         }
     }
 
-    // A full channel stays as it is.
-    pub fn put(self, message: Message) -> Self
+    fn put(self, message: Message) -> Self
         ensures { result ≡ put3 self message }
     {
-        let first = self.first;
-        let second = self.second;
-        let third = self.third;
-        let count = self.count;
-        if count == 0 {
-            return Channel3 {
+        match self.count {
+            0 => Channel3 {
                 count: 1,
                 first: message,
-                second,
-                third,
-            };
-        }
-        if count == 1 {
-            return Channel3 {
+                ..self
+            },
+            1 => Channel3 {
                 count: 2,
-                first,
                 second: message,
-                third,
-            };
-        }
-        if count == 2 {
-            return Channel3 {
+                ..self
+            },
+            2 => Channel3 {
                 count: 3,
-                first,
-                second,
                 third: message,
-            };
+                ..self
+            },
+            _ => self,
         }
-        self
     }
+}
 
+impl Channel3 {
     // Whether the newest message is a READY.
     pub fn ends_ready(self) -> bool
         ensures { result ≡ ends_ready self }
     {
-        let first = self.first;
-        let second = self.second;
-        let third = self.third;
-        let count = self.count;
-        if count == 0 {
-            return false;
+        match self.count {
+            0 => false,
+            1 => self.first.is_ready(),
+            2 => self.second.is_ready(),
+            _ => self.third.is_ready(),
         }
-        if count == 1 {
-            return first.is_ready();
-        }
-        if count == 2 {
-            return second.is_ready();
-        }
-        third.is_ready()
     }
-}
-
-// A count with one taken away, 0 where there is none.
-pub fn one_less(count: u8) -> u8
-    ensures { result ≡ count - 1 }
-{
-    if 0 < count { count - 1 } else { 0 }
 }

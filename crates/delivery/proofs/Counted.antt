@@ -4,7 +4,7 @@ use mathlib.Core.Bool.{Bool, true, ◌&&◌}
 use mathlib.Core.Path.{◌≡◌}
 use lib.Dec.{leb}
 use borrow.Author.Tests.{leb-true}
-use Rattle.laws.proofs.Tests.{and_right}
+use Rattle.std.proofs.lemmas.Bool.{and_parts}
 use Rattle.table.specs.declared.Table.{Table}
 use Rattle.soundness.specs.Sound.{sound_table}
 use Rattle.sound_state.specs.SoundState.{sound_state}
@@ -16,4 +16,4 @@ unfolding sound_for
 count_fits T s n h =
     let parts : Bool = sound_state T.vectors T.masks T.tasks T.gates T.states s in
     leb-true s.logged (n / 2)
-    (and_right parts (leb s.logged (n / 2)) (and_right (sound_table T) (parts && leb s.logged (n / 2)) h))
+    ((and_parts parts (leb s.logged (n / 2)) ((and_parts (sound_table T) (parts && leb s.logged (n / 2)) h).1)).1)

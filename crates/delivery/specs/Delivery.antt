@@ -1,28 +1,26 @@
 -- "What a delivery does", and the numbers it gives back.
-use Rattle.std.specs.Prelude.{ℕ, ◌+◌, ◌-◌, ◌*◌, ◌/◌, Bool, cond, ◌&&◌, not, List, eqb, ltb, leb, get_or, set, length}
+use Rattle.std.specs.Prelude.{ℕ, ◌+◌, ◌-◌, ◌*◌, ◌/◌, Bool, cond, ◌&&◌, not, List, eqb, ltb, leb, get_or, set, length, Option, Some, None, Ok, Err}
 use Rattle.laws.specs.Turns.{up_to}
-use Rattle.answers.specs.declared.Answer.{Answer}
-use Rattle.answers.specs.declared.Answer.TheVariants.{Done, NoChannel, ChannelEmpty, LogFull, Unsound, Excluded}
+use Rattle.answers.specs.Answers.{Answer}
+use Rattle.answers.specs.declared.Refusal.{Refusal}
+use Rattle.answers.specs.declared.Refusal.TheVariants.{NoChannel, ChannelEmpty, LogFull, Unsound, Excluded}
 use Rattle.numbers.specs.Endpoints.{endpoint_of}
 use Rattle.numbers.specs.declared.Endpoint.{Endpoint}
-use Rattle.numbers.specs.declared.Endpoint.TheVariants.{Nobody, Task, Gate}
+use Rattle.numbers.specs.declared.Endpoint.TheVariants.{Task, Gate}
 use Rattle.table.specs.declared.Table.{Table}
 use Rattle.soundness.specs.Sound.{sound_table}
 use Rattle.channels.specs.Channels.{no_request}
 use Rattle.channels.specs.declared.Request.{Request}
 use Rattle.state.specs.States.{task_of, gate_of, with_task, with_gate, with_logged, pop_of}
 use Rattle.state.specs.declared.State.{State}
+use Rattle.channels.specs.declared.Message.{Message}
 use Rattle.state.specs.declared.Link.{Link}
 use Rattle.state.specs.declared.Link.TheVariants.{ToGate, FromGate, ToTask}
-use Rattle.state.specs.declared.Front.{Front}
-use Rattle.state.specs.declared.Front.TheVariants.{Nothing, Oldest}
 use Rattle.state.specs.declared.Popped.{Popped}
 use Rattle.sound_state.specs.SoundState.{sound_state}
 use Rattle.tasks.specs.Tasks.{at_task}
 use Rattle.gates.specs.Gates.{at_gate}
 use Rattle.delivery.specs.declared.Delivered.{Delivered}
-use Rattle.delivery.specs.declared.Way.{Way}
-use Rattle.delivery.specs.declared.Way.TheVariants.{Nowhere, Along}
 use Rattle.tasks.specs.declared.Work as task
 use Rattle.gates.specs.declared.Work as gate
 
@@ -34,6 +32,9 @@ pub record Outcome : Type 0 where
 
 abbrev pub given_back : Outcome → Delivered
 given_back o = record { state = o.state; answer = o.answer }
+
+abbrev pub refused_at : State → Refusal → Delivered
+refused_at s refusal = record { state = s; answer = Err refusal }
 
 abbrev pub with_log : List ℕ → Delivered → Outcome
 with_log log d = record { state = d.state; answer = d.answer; log = log }
@@ -55,46 +56,46 @@ written at entries count log = up_to (λ (k : ℕ) (l : List ℕ). entered_in_lo
 -- "capacity is its length divided by two, rounded down".
 abbrev pub settled_at_task : State → State → List ℕ → ℕ → task.Work → Outcome
 settled_at_task s popped log b w =
-    cond (not w.ok) (refused s log Excluded)
-    (cond (ltb (length log / 2 - s.logged) w.fired) (refused s log LogFull)
+    cond (not w.ok) (refused s log (Err Excluded))
+    (cond (ltb (length log / 2 - s.logged) w.fired) (refused s log (Err LogFull))
     (record {
       state = with_logged (with_task popped b w.task) (s.logged + w.fired);
-      answer = Done;
+      answer = Ok tt;
       log = written s.logged w.entries w.fired log;
     }))
 
 abbrev pub settled_at_gate : State → State → ℕ → gate.Work → Delivered
 settled_at_gate s popped g w =
-    cond (not w.ok) (record { state = s; answer = Excluded }) (record { state = with_gate popped g w.gate; answer = Done })
+    cond (not w.ok) (refused_at s Excluded) (record { state = with_gate popped g w.gate; answer = Ok tt })
 
 -- The channel from one endpoint to another. 8: "no such channel: endpoint absent, gate to gate, or from equals to"
-abbrev pub way_of : Endpoint → Endpoint → Way
-way_of Nobody e = Nowhere
-way_of (Task a) Nobody = Nowhere
-way_of (Task a) (Task b) = cond (eqb a.0 b.0) Nowhere (Along (ToTask a b))
-way_of (Task t) (Gate g) = Along (ToGate t g)
-way_of (Gate g) Nobody = Nowhere
-way_of (Gate g) (Task b) = Along (FromGate g b)
-way_of (Gate g) (Gate h) = Nowhere
+abbrev pub way_of : Option Endpoint → Option Endpoint → Option Link
+way_of None e = None
+way_of (Some (Task a)) None = None
+way_of (Some (Task a)) (Some (Task b)) = cond (eqb a.0 b.0) None (Some (ToTask a b))
+way_of (Some (Task t)) (Some (Gate g)) = Some (ToGate t g)
+way_of (Some (Gate g)) None = None
+way_of (Some (Gate g)) (Some (Task b)) = Some (FromGate g b)
+way_of (Some (Gate g)) (Some (Gate h)) = None
 
 -- "It takes the oldest message of the channel named": what is at the front, and the state popped without it.
 -- From task t to gate g; no entry is written there.
 module _ (vectors masks : List ℕ) (s : State) (t g : ℕ) where
-  abbrev pub front_at_gate : State → Front → Delivered
-  front_at_gate popped Nothing = record { state = s; answer = ChannelEmpty }
-  front_at_gate popped (Oldest m) = settled_at_gate s popped g (at_gate masks (get_or vectors g 0) g t (gate_of s g) m)
+  abbrev pub front_at_gate : State → Option Message → Delivered
+  front_at_gate popped None = refused_at s ChannelEmpty
+  front_at_gate popped (Some m) = settled_at_gate s popped g (at_gate masks (get_or vectors g 0) g t (gate_of s g) m)
 
-  unfoldable pub delivered_at_gate : Popped → Delivered
-  delivered_at_gate taken = front_at_gate taken.state taken.front
+  unfoldable pub delivered_at_gate : Popped State → Delivered
+  delivered_at_gate taken = front_at_gate taken.after taken.front
 
 module _ (moves masks : List ℕ) (gates : ℕ) (s : State) (log : List ℕ) where
   -- To task b.
-  abbrev pub front_at_task : ℕ → State → Front → Outcome
-  front_at_task b popped Nothing = refused s log ChannelEmpty
-  front_at_task b popped (Oldest m) = settled_at_task s popped log b (at_task moves gates b masks (task_of s b) m)
+  abbrev pub front_at_task : ℕ → State → Option Message → Outcome
+  front_at_task b popped None = refused s log (Err ChannelEmpty)
+  front_at_task b popped (Some m) = settled_at_task s popped log b (at_task moves gates b masks (task_of s b) m)
 
-  unfoldable pub delivered_at_task : ℕ → Popped → Outcome
-  delivered_at_task b taken = front_at_task b taken.state taken.front
+  unfoldable pub delivered_at_task : ℕ → Popped State → Outcome
+  delivered_at_task b taken = front_at_task b taken.after taken.front
 
   -- The oldest message of a channel, at its receiver.
   abbrev pub along : List ℕ → Link → Outcome
@@ -102,11 +103,11 @@ module _ (moves masks : List ℕ) (gates : ℕ) (s : State) (log : List ℕ) whe
   along vectors (FromGate g b) = delivered_at_task b.0 (pop_of s (FromGate g b))
   along vectors (ToTask a b) = delivered_at_task b.0 (pop_of s (ToTask a b))
 
-  abbrev pub way_taken : List ℕ → Way → Outcome
-  way_taken vectors Nowhere = refused s log NoChannel
-  way_taken vectors (Along link) = along vectors link
+  abbrev pub way_taken : List ℕ → Option Link → Outcome
+  way_taken vectors None = refused s log (Err NoChannel)
+  way_taken vectors (Some link) = along vectors link
 
-  unfoldable pub between : List ℕ → Endpoint → Endpoint → Outcome
+  unfoldable pub between : List ℕ → Option Endpoint → Option Endpoint → Outcome
   between vectors from to = way_taken vectors (way_of from to)
 
 -- 11: the table, the state, and the log count against the capacity of a log of n bytes
@@ -117,6 +118,6 @@ sound_for T s n =
 -- "Order for a delivery: 11, 8, 9, 12, 10."
 unfoldable pub delivered : Table → State → List ℕ → ℕ → ℕ → Outcome
 delivered T s log from to =
-    cond (not (sound_for T s (length log))) (refused s log Unsound)
+    cond (not (sound_for T s (length log))) (refused s log (Err Unsound))
     (between T.moves T.masks T.gates s log T.vectors
     (endpoint_of T.tasks T.gates from) (endpoint_of T.tasks T.gates to))

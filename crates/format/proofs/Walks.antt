@@ -8,9 +8,9 @@ use native.Mathlib.Nat.{sub-zero}
 use native.Mathlib.Omega.{arith}
 use lib.ListN.{length}
 use borrow.Author.Tests.{lt-ltb, le-ltb}
-use Rattle.answers.specs.Answers.{is_done}
-use Rattle.answers.specs.declared.Answer.{Answer}
-use Rattle.laws.proofs.Tests.{le_or_lt, true_or_false}
+use Rattle.answers.specs.Answers.{is_done, Answer}
+use Rattle.std.proofs.lemmas.Bool.{cases_Bool}
+use Rattle.laws.proofs.Tests.{le_or_lt}
 use Rattle.format.specs.Format.{size_at}
 use Rattle.format.specs.Walk.{walk}
 
@@ -89,7 +89,7 @@ module _ {A R : Type 0} (file : List ℕ) (fault : ℕ → A → Answer) (more :
           (walk_ends n (at + size_at file at) (more at l) (keeps at l h g d) (omega arith)))
           (λ (d : is_done (fault at l) ≡ false).
           inr (record { at = at; last = l; inside = h; held = g; faulty = d; is = step_refused n at l h d }))
-          (true_or_false (is_done (fault at l))))
+          (cases_Bool (is_done (fault at l))))
           (le_or_lt (length file) at)
 
       pub all_ends : (l : A) → Held 0 l → Ended (walk file fault more refused ended (length file) 0 l) ⊎ Refused (walk file fault more refused ended (length file) 0 l)

@@ -1,8 +1,7 @@
 -- "House format, little-endian. Each record: body length (2 bytes, body only), kind (2 bytes), body."
-use Rattle.std.specs.Prelude.{ℕ, ◌+◌, ◌-◌, ◌*◌, cond, not, List, [], ◌∷◌, eqb, ltb, get_or, length}
-use Rattle.answers.specs.Answers.{is_done}
-use Rattle.answers.specs.declared.Answer.{Answer}
-use Rattle.answers.specs.declared.Answer.TheVariants.{Done, CutOff, BodyLength}
+use Rattle.std.specs.Prelude.{ℕ, ◌+◌, ◌-◌, ◌*◌, cond, not, List, [], ◌∷◌, eqb, ltb, get_or, length, Ok, Err}
+use Rattle.answers.specs.Answers.{is_done, Answer}
+use Rattle.answers.specs.declared.Refusal.TheVariants.{CutOff, BodyLength}
 
 -- "Every kind has one body length": kinds 1 to 5 in turn; there is no kind 0
 abbrev pub body_length_of : ℕ → ℕ
@@ -25,8 +24,8 @@ size_at file at = 4 + body_length_of (kind_at file at)
 -- body length (3); body present (1)
 unfoldable pub head_fault : List ℕ → ℕ → Answer → Answer
 head_fault file at judged =
-    cond (ltb (length file - at) 4) CutOff
+    cond (ltb (length file - at) 4) (Err CutOff)
     (cond (not (is_done judged)) judged
-    (cond (not (eqb (4 + word_at file at) (size_at file at))) BodyLength
-    (cond (ltb (length file - at) (size_at file at)) CutOff
-    Done)))
+    (cond (not (eqb (4 + word_at file at) (size_at file at))) (Err BodyLength)
+    (cond (ltb (length file - at) (size_at file at)) (Err CutOff)
+    (Ok tt))))

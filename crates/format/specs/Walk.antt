@@ -1,7 +1,6 @@
 -- A file of records is read from its start, record by record, until the first fault or the end.
 use Rattle.std.specs.Prelude.{ℕ, suc, zero, ◌+◌, cond, List, ltb, length}
-use Rattle.answers.specs.Answers.{is_done}
-use Rattle.answers.specs.declared.Answer.{Answer}
+use Rattle.answers.specs.Answers.{is_done, Answer}
 use Rattle.format.specs.Format.{size_at}
 
 -- What is read so far is an A, and what comes back an R. `fault at l` is the first fault of the record at `at` after l,

@@ -1,10 +1,11 @@
-// The house format: records of a body length, a kind and a body, little-endian.
+// The house format: records of a body length, a kind and a body, little-endian. A place is a file and
+// an offset, two words as in the paper.
 #![tactic(auto)]
 
 ghost use Rattle.std.specs.Prelude.{◌≡◌, ◌-◌, length};
 ghost use Rattle.format.specs.Format.{body_length_of, word_at, kind_at, size_at, head_fault};
 
-use answers::Answer;
+use answers::{Answer, Refusal};
 
 // Every kind has one body length: the table is read by each reader and writer of the format.
 pub const BODY_LENGTHS: [u8; 6] = [0, 2, 3, 4, 3, 2];
@@ -13,8 +14,7 @@ pub const BODY_LENGTHS: [u8; 6] = [0, 2, 3, 4, 3, 2];
 pub fn body_length(kind: u16) -> u8
     ensures { result ≡ body_length_of kind }
 {
-    let k = kind as usize;
-    if k < 6 { BODY_LENGTHS[k] } else { 0 }
+    reads::at(&BODY_LENGTHS, kind.into(), 0)
 }
 
 // The two bytes at a place as one number.
@@ -22,7 +22,7 @@ pub fn word_at(file: &[u8], i: usize) -> u16
     ensures { result ≡ word_at file.now i }
 {
     if i < file.len() {
-        wide(reads::byte(file, i)) + wide(reads::byte(file, i + 1)) * 256
+        u16::from_le_bytes([reads::at(file, i, 0), reads::at(file, i + 1, 0)])
     } else {
         0
     }
@@ -43,7 +43,7 @@ pub fn kind_at(file: &[u8], at: usize) -> u16
 pub fn size_at(file: &[u8], at: usize) -> usize
     ensures { result ≡ size_at file.now at }
 {
-    4 + body_length(kind_at(file, at)) as usize
+    4 + usize::from(body_length(kind_at(file, at)))
 }
 
 // The first fault of the record at a place before its fields are looked at, where allowed says
@@ -54,30 +54,22 @@ pub fn head_fault(file: &[u8], at: usize, allowed: Answer) -> Answer
 {
     let left = left_from(file, at);
     if left < 4 {
-        return Answer::CutOff;
+        return Err(Refusal::CutOff);
     }
-    if !answers::is_done(allowed) {
-        return allowed;
-    }
+    allowed?;
     let size = size_at(file, at);
-    if 4 + word_at(file, at) as usize != size {
-        return Answer::BodyLength;
+    if 4 + usize::from(word_at(file, at)) != size {
+        return Err(Refusal::BodyLength);
     }
     if left < size {
-        return Answer::CutOff;
+        return Err(Refusal::CutOff);
     }
-    Answer::Done
+    Ok(())
 }
 
 // How many bytes of the file stand from a place on.
 fn left_from(file: &[u8], at: usize) -> usize
     ensures { result ≡ length file.now - at }
 {
-    if at < file.len() { file.len() - at } else { 0 }
-}
-
-fn wide(byte: u8) -> u16
-    ensures { result ≡ byte }
-{
-    byte as u16
+    file.len().saturating_sub(at)
 }

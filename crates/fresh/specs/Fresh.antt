@@ -1,7 +1,7 @@
 -- "Fresh": the state that a line starts with.
-use Rattle.std.specs.Prelude.{ℕ, cond, get_or}
+use Rattle.std.specs.Prelude.{ℕ, cond, get_or, Ok, Err}
 use Rattle.laws.specs.Turns.{up_to}
-use Rattle.answers.specs.declared.Answer.TheVariants.{Done, Unsound}
+use Rattle.answers.specs.declared.Refusal.TheVariants.{Unsound}
 use Rattle.table.specs.declared.Table.{Table}
 use Rattle.soundness.specs.Sound.{sound_table}
 use Rattle.state.specs.States.{empty_state, task_of, with_task, at_state}
@@ -18,4 +18,4 @@ fresh_state T = up_to (started_at T) T.tasks empty_state
 
 -- "for Fresh, the empty state"
 unfoldable pub fresh : Table → Started
-fresh T = cond (sound_table T) (record { state = fresh_state T; answer = Done }) (record { state = empty_state; answer = Unsound })
+fresh T = cond (sound_table T) (record { state = fresh_state T; answer = Ok tt }) (record { state = empty_state; answer = Err Unsound })

@@ -5,13 +5,14 @@ ghost use Rattle.std.specs.Prelude.{◌≡◌};
 ghost use Rattle.fresh.specs.Fresh.{fresh};
 ghost use Rattle.fresh.specs.Parts.{started};
 
-use answers::Answer;
+use answers::{Answer, Refusal};
 use numbers::TaskNo;
 use state::{State, Task};
 use table::Table;
-use tasks::Outgoing;
+use tasks::{Outgoing, Seat};
 
-#[derive(Clone, Copy)]
+// No `Result`, since the paper gives the empty state with a refusal.
+#[derive(Clone, Copy, Debug, PartialEq, Eq)]
 pub struct Started {
     pub state: State,
     pub answer: Answer,
@@ -23,35 +24,35 @@ pub struct Started {
 pub fn fresh(table: Table) -> Started
     ensures { result ≡ fresh table }
 {
-    let mut s = State::empty();
+    let mut state = State::empty();
     if !soundness::sound(table) {
         return Started {
-            state: s,
-            answer: Answer::Unsound,
+            state,
+            answer: Err(Refusal::Unsound),
         };
     }
-    let mut t: u8 = 0;
-    while t < table.tasks {
-        let i = t as usize;
-        let p = s.tasks[i];
-        let start = table.starts[i];
-        let task = started_task(&table.moves, table.gates, TaskNo(t), start, p);
-        s.tasks[i] = task;
-        t += 1;
+    for t in 0..table.tasks {
+        let i = usize::from(t);
+        let seat = Seat {
+            rules: table.rules(),
+            number: TaskNo(t),
+        };
+        let p = state.tasks[i];
+        let task = started_task(seat, table.starts[i], p);
+        state.tasks[i] = task;
     }
     Started {
-        state: s,
-        answer: Answer::Done,
+        state,
+        answer: Ok(()),
     }
 }
 
-// A task at its start state announces itself.
-fn started_task(moves: &[u8], gates: u8, number: TaskNo, start: u8, task: Task) -> Task
-    ensures { result ≡ started moves.now gates number.0 start task }
+// A task at its start state announces itself; what it shares with one that moves is that.
+fn started_task(seat: Seat<'_>, start: u8, task: Task) -> Task
+    ensures { result ≡ started seat.entry.rules.moves.now seat.entry.rules.gates seat.entry.number.0 start task }
 {
     let up = task.up;
-    let before = Outgoing { up, ok: true };
-    let after = tasks::announced(moves, gates, number, start, before);
+    let after = seat.announced(start, Outgoing { up, ok: true });
     let up = after.up;
     task.at_state(start).with_all_up(up)
 }

@@ -1,9 +1,8 @@
 -- "At a gate, from task t": what a message does there.
-use Rattle.std.specs.Prelude.{ℕ, true, false, cond, List, ltb}
+use Rattle.std.specs.Prelude.{ℕ, true, false, cond, List, ltb, Option, Some, None}
 use Rattle.laws.specs.Below.{first_from}
 use Rattle.sets.specs.Sets.{member_of, subset_of, union_of, minus_of, with_of, without_of, lowest_of}
-use Rattle.sets.specs.declared.Found.{Found}
-use Rattle.sets.specs.declared.Found.TheVariants.{Nobody, Task}
+use Rattle.numbers.specs.declared.TaskNo.{TaskNo}
 use Rattle.table.specs.Tables.{mask_of}
 use Rattle.channels.specs.declared.Message.{Message}
 use Rattle.channels.specs.declared.Message.TheVariants.{Ready, Lock, Commit, Abort}
@@ -24,9 +23,9 @@ abbrev pub offering : Gate → ℕ → Deal → Gate
 offering k offers deal = record { offers = offers; deal = deal; down = k.down }
 
 -- a message to a task: a full channel stays as it is, and is not allowed
-abbrev pub sent_down : Gate → Found → Message → Work
-sent_down k Nobody m = allowed k
-sent_down k (Task b) m = let put = put_down k b.0 m in record { gate = put.gate; ok = put.room }
+abbrev pub sent_down : Gate → Option TaskNo → Message → Work
+sent_down k None m = allowed k
+sent_down k (Some b) m = let put = put_down k b.0 m in record { gate = put.after; ok = put.room }
 
 -- The masks, how many vectors the gate has, and its own number.
 module _ (masks : List ℕ) (vectors g : ℕ) where

@@ -8,6 +8,7 @@ ghost use Rattle.hunavosk.specs.Calls.{called};
 
 // Gives back how many bytes of text are written, at least one; 0 says that the text's buffer is too
 // short, and then neither buffer is changed. include/hunavosk.h says it for C.
+#[tactic(auto, using(room::proofs::Room::text_whole), unfolding(crate::specs::Calls::called))]
 pub fn hunavosk_desk<'a>(
     table: &'a [u8],
     schedule: &'a [u8],
@@ -29,11 +30,5 @@ pub fn hunavosk_desk<'a>(
 fn is_short(text: usize, log: usize) -> bool
     ensures { result ≡ ltb text (room_for log) }
 {
-    if text < 200 {
-        return true;
-    }
-    if (text - 200) / 20 < log {
-        return true;
-    }
-    false
+    text < 200 || (text - 200) / 20 < log
 }

@@ -5,7 +5,7 @@ use mathlib.Core.Path.{◌≡◌, refl, sym, subst}
 use native.Mathlib.Omega.{arith}
 use lib.Dec.{leb, leb-zero}
 use borrow.Author.Tests.{leb-true, ne_eqb, lt-ltb}
-use Rattle.laws.proofs.Tests.{and_left, and_right, and-true}
+use Rattle.std.proofs.lemmas.Bool.{and_from, and_parts}
 use Rattle.channels.specs.Channels.{is_ready, empty1, empty3, popped3, put1, put3}
 use Rattle.channels.specs.declared.Message.{Message}
 use Rattle.channels.specs.declared.Channel1.{Channel1}
@@ -19,22 +19,22 @@ channel3 n a b c = record { count = n; first = a; second = b; third = c }
 put_at : (g n : ℕ) (a b c m : Message) → up_fits g m ≡ true
     → up_sound true g (channel3 n a b c) ≡ true → up_sound true g (put3 (channel3 n a b c) m) ≡ true
 put_at g zero a b c m f h =
-    and-true (up_fits g m) (is_ready b && is_ready c) f (and_right (is_ready a) (is_ready b && is_ready c) h)
+    and_from (up_fits g m) (is_ready b && is_ready c) f ((and_parts (is_ready a) (is_ready b && is_ready c) h).1)
 put_at g (suc zero) a b c m f h =
-    let k : (is_ready b && is_ready c) ≡ true = and_right (up_fits g a) (is_ready b && is_ready c) h in
-    and-true (up_fits g a) (up_fits g m && is_ready c) (and_left (up_fits g a) (is_ready b && is_ready c) h)
-    (and-true (up_fits g m) (is_ready c) f (and_right (is_ready b) (is_ready c) k))
+    let k : (is_ready b && is_ready c) ≡ true = (and_parts (up_fits g a) (is_ready b && is_ready c) h).1 in
+    and_from (up_fits g a) (up_fits g m && is_ready c) ((and_parts (up_fits g a) (is_ready b && is_ready c) h).0)
+    (and_from (up_fits g m) (is_ready c) f ((and_parts (is_ready b) (is_ready c) k).1))
 put_at g (suc (suc zero)) a b c m f h =
-    let k : (up_fits g b && is_ready c) ≡ true = and_right (up_fits g a) (up_fits g b && is_ready c) h in
-    and-true (up_fits g a) (up_fits g b && up_fits g m) (and_left (up_fits g a) (up_fits g b && is_ready c) h)
-    (and-true (up_fits g b) (up_fits g m) (and_left (up_fits g b) (is_ready c) k) f)
+    let k : (up_fits g b && is_ready c) ≡ true = (and_parts (up_fits g a) (up_fits g b && is_ready c) h).1 in
+    and_from (up_fits g a) (up_fits g b && up_fits g m) ((and_parts (up_fits g a) (up_fits g b && is_ready c) h).0)
+    (and_from (up_fits g b) (up_fits g m) ((and_parts (up_fits g b) (is_ready c) k).0) f)
 put_at g (suc (suc (suc n))) a b c m f h =
     let k : ℕ = suc (suc (suc n)) in
     rw (ne_eqb k 0 (λ e. omega arith), ne_eqb k 1 (λ e. omega arith), ne_eqb k 2 (λ e. omega arith)) h
 
 -- without the first of three tests
 later : (x y z : Bool) → (x && (y && z)) ≡ true → (y && (z && true)) ≡ true
-later true true z h = and-true z true h refl
+later true true z h = and_from z true h refl
 later true false z h = h
 later false y z h = absurd (true≢false (sym h))
 
@@ -45,7 +45,7 @@ pop_at g (suc zero) a b c h = later (up_fits g a) (is_ready b) (is_ready c) h
 pop_at g (suc (suc zero)) a b c h = later (up_fits g a) (up_fits g b) (is_ready c) h
 pop_at g (suc (suc (suc zero))) a b c h = later (up_fits g a) (up_fits g b) (up_fits g c) h
 pop_at g (suc (suc (suc (suc n)))) a b c h =
-    let k : suc (suc (suc (suc n))) ≤ 3 = leb-true (suc (suc (suc (suc n)))) 3 (and_left _ _ h) in absurd (omega arith)
+    let k : suc (suc (suc (suc n))) ≤ 3 = leb-true (suc (suc (suc (suc n)))) 3 ((and_parts _ _ h).0) in absurd (omega arith)
 
 -- a channel to gate g between parties that are present
 module _ (present : Bool) (here : present ≡ true) (g : ℕ) (c : Channel3) (h : up_sound present g c ≡ true) where
@@ -75,7 +75,7 @@ module _ (fits : Message → Bool) where
     -- its message, where it has one, is such a message
     pub one_fits : (c.count ≡ 0 → ⊥) → fits c.first ≡ true
     one_fits n =
-        rw (lt-ltb 0 c.count (omega arith)) at (and_right (leb c.count (room present 1)) _ h)
+        rw (lt-ltb 0 c.count (omega arith)) at ((and_parts (leb c.count (room present 1)) _ h).1)
 
 pub empty_one : (present fits : Bool) → one_sound present fits empty1 ≡ true
 empty_one present fits = rw (leb-zero (room present 1))

@@ -1,4 +1,5 @@
 -- A message that comes to a present gate from a present task keeps the gate's rules.
+use Rattle.std.specs.Prelude.{Option, Some, None}
 use Prim.Native.Nat.{ℕ, ◌^◌, ◌<◌, ◌≤◌}
 use mathlib.Core.Bool.{Bool, true, false, cond, ◌&&◌}
 use mathlib.Core.Path.{◌≡◌, refl, sym, ◌∙◌, subst}
@@ -10,10 +11,9 @@ use lib.ListN.{get_or, length-set}
 use lib.Pow.{pow-lt}
 use borrow.Author.Tests.{lt-ltb, ltb-true, eq-eqb, eqb-true}
 use Rattle.laws.proofs.Stores.{store_at}
-use Rattle.laws.proofs.Tests.{and-true}
+use Rattle.std.proofs.lemmas.Bool.{and_from}
 use Rattle.sets.specs.Sets.{member_of, all_below_of, union_of, minus_of, alone_of, with_of, without_of, lowest_of}
-use Rattle.sets.specs.declared.Found.{Found}
-use Rattle.sets.specs.declared.Found.TheVariants.{Nobody, Task}
+use Rattle.numbers.specs.declared.TaskNo.{TaskNo}
 use Rattle.sets.proofs.Members.{below_power, member_below}
 use Rattle.sets.proofs.Ends.{lowest_says}
 use Rattle.table.specs.Tables.{mask_of}
@@ -74,19 +74,19 @@ module _ (T : Table) (R : Rules T) (g : ℕ) (here : g < T.gates) where
   mask_small v l = below_power T.tasks (mask_of T.masks g v)
       (eqb-true _ _ (R.members g v (omega (arith, R.gates)) l))
 
-  lock_kept : (k : Gate) (v : ℕ) (lowest : Found) → v < count → lowest_of (mask_of T.masks g v) ≡ lowest
+  lock_kept : (k : Gate) (v : ℕ) (lowest : Option TaskNo) → v < count → lowest_of (mask_of T.masks g v) ≡ lowest
       → GateRules T g k → GateRules T g (sent_down k lowest (Lock (record { gate = record { 0 = g }; vector = v }))).gate
-  lock_kept k v Nobody l e r = r
-  lock_kept k v (Task b) l e r =
+  lock_kept k v None l e r = r
+  lock_kept k v (Some b) l e r =
       let f = lowest_says (mask_of T.masks g v) b e in
       let c : Channel1 = down_of k b.0 in
       let m : Message = Lock (record { gate = record { 0 = g }; vector = v }) in
       let there : b.0 < T.tasks =
       member_below T.tasks (mask_of T.masks g v) b.0 (mask_small v l) f.member in
       let both : (ltb g T.gates && ltb b.0 T.tasks) ≡ true =
-      and-true _ _ (lt-ltb g T.gates here) (lt-ltb b.0 T.tasks there) in
+      and_from _ _ (lt-ltb g T.gates here) (lt-ltb b.0 T.tasks there) in
       let fits : down_fit T g b.0 m ≡ true =
-      and-true _ _ (eq-eqb g g refl) (and-true _ _ (lt-ltb v count l) f.member) in
+      and_from _ _ (eq-eqb g g refl) (and_from _ _ (lt-ltb v count l) f.member) in
       down_kept T g k b.0 (put1 c m) (put_one (down_fit T g b.0) _ c (r.down b.0 f.high) both m fits) r
 
   searched_by_lem : (k : Gate) (deal : Deal) → GateRules T g k → GateRules T g (searched_by T.masks count g k deal).gate

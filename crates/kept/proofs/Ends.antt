@@ -1,4 +1,5 @@
 -- The ways a delivery ends: refused, which changes nothing, or done at a gate or at a task.
+use Rattle.std.specs.Prelude.{Option, Some, None, Ok, Err}
 use Prim.Native.Nat.{ℕ, ◌+◌, ◌-◌, ◌/◌, ◌<◌, ◌≤◌}
 use mathlib.Core.Bool.{Bool, true, false, cond, not, true≢false}
 use mathlib.Core.List.{List}
@@ -6,23 +7,19 @@ use mathlib.Core.Path.{◌≡◌, refl}
 use lib.Dec.{eqb, ltb}
 use lib.ListN.{get_or, length}
 use borrow.Author.Tests.{ltb-true, ltb-false, eqb-false}
-use Rattle.answers.specs.Answers.{is_done}
-use Rattle.answers.specs.declared.Answer.{Answer}
-use Rattle.answers.specs.declared.Answer.TheVariants.{Done, NoChannel, ChannelEmpty, LogFull, Unsound, Excluded}
-use Rattle.channels.specs.Channels.{empty1, popped3}
+use Rattle.answers.specs.Answers.{is_done, Answer}
+use Rattle.answers.specs.declared.Refusal.TheVariants.{NoChannel, ChannelEmpty, LogFull, Unsound, Excluded}
+use Rattle.channels.specs.Channels.{empty1, popped3, front_of}
 use Rattle.channels.specs.declared.Message.{Message}
 use Rattle.delivery.proofs.Ways.{way_within}
 use Rattle.delivery.specs.Delivery.{Outcome, with_log, refused, written, settled_at_task, settled_at_gate, way_of, front_at_gate, delivered_at_gate, front_at_task, delivered_at_task, along, way_taken, between, sound_for, delivered}
 use Rattle.delivery.specs.Within.{EndWithin, LinkWithin, WayWithin}
-use Rattle.delivery.specs.declared.Way.{Way}
-use Rattle.delivery.specs.declared.Way.TheVariants.{Nowhere, Along}
 use Rattle.gates.specs.Gates.{at_gate}
 use Rattle.gates.specs.declared.Work as gate
 use Rattle.numbers.specs.Endpoints.{endpoint_of}
-use Rattle.numbers.specs.declared.Endpoint.TheVariants.{Nobody, Task, Gate}
-use Rattle.state.specs.States.{task_of, gate_of, up_of, across_of, down_of, with_task, with_gate, with_logged, with_down, front_of}
+use Rattle.numbers.specs.declared.Endpoint.TheVariants.{Task, Gate}
+use Rattle.state.specs.States.{task_of, gate_of, up_of, across_of, down_of, with_task, with_gate, with_logged, with_down}
 use Rattle.state.specs.Parts.{with_up, with_across}
-use Rattle.state.specs.declared.Front.TheVariants.{Nothing, Oldest}
 use Rattle.state.specs.declared.Link.{Link}
 use Rattle.state.specs.declared.Link.TheVariants.{ToGate, FromGate, ToTask}
 use Rattle.state.specs.declared.State.{State}
@@ -55,12 +52,12 @@ module _ (T : Table) (s : State) where
 abbrev pub done_at_task : State → State → List ℕ → ℕ → task.Work → Outcome
 done_at_task s popped log b w = record {
   state = with_logged (with_task popped b w.task) (s.logged + w.fired);
-  answer = Done;
+  answer = Ok tt;
   log = written s.logged w.entries w.fired log;
 }
 
 abbrev pub done_at_gate : State → List ℕ → ℕ → gate.Work → Outcome
-done_at_gate popped log g w = record { state = with_gate popped g w.gate; answer = Done; log = log }
+done_at_gate popped log g w = record { state = with_gate popped g w.gate; answer = Ok tt; log = log }
 
 -- the entries of work at a task find room in the log
 abbrev pub HasRoom : State → List ℕ → task.Work → Type 0
@@ -81,8 +78,8 @@ pub present : (T : Table) (e : ℕ) → EndWithin T.tasks T.gates (endpoint_of T
 present T e = turn (ltb e 16) (ltb e T.tasks) (ltb e 32) (ltb (e - 16) T.gates) refl refl
   where
     turn : (a b c d : Bool) → ltb e T.tasks ≡ b → ltb (e - 16) T.gates ≡ d
-        → EndWithin T.tasks T.gates (cond a (cond b (Task (record { 0 = e })) Nobody)
-        (cond c (cond d (Gate (record { 0 = e - 16 })) Nobody) Nobody))
+        → EndWithin T.tasks T.gates (cond a (cond b (Some (Task (record { 0 = e }))) None)
+        (cond c (cond d (Some (Gate (record { 0 = e - 16 }))) None) None))
     turn true true c d p q = ltb-true e T.tasks p
     turn true false c d p q = tt
     turn false b true true p q = ltb-true (e - 16) T.gates q
@@ -95,9 +92,9 @@ module _ (T : Table) (s : State) (log : List ℕ) (h : sound_for T s (length log
       → Ends T s log (with_log log (settled_at_gate s popped g w))
   at_gate_ends popped g w e = turn (not w.ok)
     where
-      turn : (b : Bool) → Ends T s log (with_log log (cond b (record { state = s; answer = Excluded })
-          (record { state = with_gate popped g w.gate; answer = Done })))
-      turn true = refuses Excluded refl
+      turn : (b : Bool) → Ends T s log (with_log log (cond b (record { state = s; answer = Err Excluded })
+          (record { state = with_gate popped g w.gate; answer = Ok tt })))
+      turn true = refuses (Err Excluded) refl
       turn false = e
 
   at_task_ends : (popped : State) (b : ℕ) (w : task.Work)
@@ -106,29 +103,29 @@ module _ (T : Table) (s : State) (log : List ℕ) (h : sound_for T s (length log
   at_task_ends popped b w e = turn (not w.ok) (ltb (length log / 2 - s.logged) w.fired) refl
     where
       turn : (x y : Bool) → ltb (length log / 2 - s.logged) w.fired ≡ y
-          → Ends T s log (cond x (refused s log Excluded)
-          (cond y (refused s log LogFull) (done_at_task s popped log b w)))
-      turn true y q = refuses Excluded refl
-      turn false true q = refuses LogFull refl
+          → Ends T s log (cond x (refused s log (Err Excluded))
+          (cond y (refused s log (Err LogFull)) (done_at_task s popped log b w)))
+      turn true y q = refuses (Err Excluded) refl
+      turn false true q = refuses (Err LogFull) refl
       turn false false q = e (ltb-false (length log / 2 - s.logged) w.fired q)
 
   found : (n : ℕ) (m : Message) (popped : State) (b : ℕ)
-      → ((n ≡ 0 → ⊥) → Ends T s log (front_at_task T.moves T.masks T.gates s log b popped (Oldest m)))
+      → ((n ≡ 0 → ⊥) → Ends T s log (front_at_task T.moves T.masks T.gates s log b popped (Some m)))
       → Ends T s log (front_at_task T.moves T.masks T.gates s log b popped (front_of n m))
   found n m popped b e = turn (eqb n 0) refl
     where
       turn : (x : Bool) → eqb n 0 ≡ x
-          → Ends T s log (front_at_task T.moves T.masks T.gates s log b popped (cond x Nothing (Oldest m)))
-      turn true q = refuses ChannelEmpty refl
+          → Ends T s log (front_at_task T.moves T.masks T.gates s log b popped (cond x None (Some m)))
+      turn true q = refuses (Err ChannelEmpty) refl
       turn false q = e (eqb-false n 0 q)
 
   found_at_gate : (n : ℕ) (m : Message) (popped : State) (t g : ℕ)
-      → Ends T s log (with_log log (front_at_gate T.vectors T.masks s t g popped (Oldest m)))
+      → Ends T s log (with_log log (front_at_gate T.vectors T.masks s t g popped (Some m)))
       → Ends T s log (with_log log (front_at_gate T.vectors T.masks s t g popped (front_of n m)))
   found_at_gate n m popped t g e = turn (eqb n 0)
     where
-      turn : (x : Bool) → Ends T s log (with_log log (front_at_gate T.vectors T.masks s t g popped (cond x Nothing (Oldest m))))
-      turn true = refuses ChannelEmpty refl
+      turn : (x : Bool) → Ends T s log (with_log log (front_at_gate T.vectors T.masks s t g popped (cond x None (Some m))))
+      turn true = refuses (Err ChannelEmpty) refl
       turn false = e
 
   along_ends : (link : Link) → LinkWithin T.tasks T.gates link
@@ -143,20 +140,20 @@ module _ (T : Table) (s : State) (log : List ℕ) (h : sound_for T s (length log
       at_task_ends (across_popped s a.0 b.0) b.0 (across_work T s a.0 b.0)
       (to_task a.0 b.0 h w.0 w.1 n))
 
-  way_ends : (way : Way) → WayWithin T.tasks T.gates way → Ends T s log (way_taken T.moves T.masks T.gates s log T.vectors way)
-  way_ends Nowhere w = refuses NoChannel refl
-  way_ends (Along link) w = along_ends link w
+  way_ends : (way : Option Link) → WayWithin T.tasks T.gates way → Ends T s log (way_taken T.moves T.masks T.gates s log T.vectors way)
+  way_ends None w = refuses (Err NoChannel) refl
+  way_ends (Some link) w = along_ends link w
 
 pub ends : (T : Table) (s : State) (log : List ℕ) (from to : ℕ) → Ends T s log (delivered T s log from to)
 unfolding delivered between
 ends T s log from to = turn (sound_for T s (length log)) refl
   where
     turn : (b : Bool) → sound_for T s (length log) ≡ b
-        → Ends T s log (cond (not b) (refused s log Unsound)
+        → Ends T s log (cond (not b) (refused s log (Err Unsound))
         (between T.moves T.masks T.gates s log T.vectors (endpoint_of T.tasks T.gates from) (endpoint_of T.tasks T.gates to)))
     turn true h = way_ends T s log h (way_of (endpoint_of T.tasks T.gates from) (endpoint_of T.tasks T.gates to))
         (way_within T.tasks T.gates (endpoint_of T.tasks T.gates from) (endpoint_of T.tasks T.gates to) (present T from) (present T to))
-    turn false h = refuses Unsound refl
+    turn false h = refuses (Err Unsound) refl
 
 unchanged : (T : Table) (s : State) (log : List ℕ) (o : Outcome) → Ends T s log o → is_done o.answer ≡ false
     → (o.state ≡ s) × (o.log ≡ log)

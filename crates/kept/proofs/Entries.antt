@@ -1,4 +1,5 @@
 -- Every entry that a delivery writes names a gate below 16 and a vector below 8.
+use Rattle.std.specs.Prelude.{Option, Some, None}
 use Prim.Native.Nat.{ℕ, suc, zero, ◌+◌, ◌*◌, ◌<◌, ◌≤◌}
 use mathlib.Core.Bool.{true, ◌&&◌, not}
 use mathlib.Core.List.{List}
@@ -8,14 +9,12 @@ use native.Mathlib.Omega.{arith}
 use lib.Dec.{ltb}
 use lib.ListN.{get_or, length, replicate}
 use Rattle.laws.proofs.Stores.{store_at}
-use Rattle.laws.proofs.Tests.{eq_or_ne, either}
+use Rattle.std.proofs.lemmas.Bool.{cases_eq}
+use Rattle.laws.proofs.Tests.{either}
 use Rattle.laws.proofs.Turning.{turns_keep}
 use Rattle.sets.specs.Sets.{member_of, next_above_of}
-use Rattle.sets.specs.declared.Found.{Found}
-use Rattle.sets.specs.declared.Found.TheVariants as found
+use Rattle.numbers.specs.declared.TaskNo.{TaskNo}
 use Rattle.table.specs.Tables.{mask_of, move_of, ready_of}
-use Rattle.table.specs.declared.Move.{Move}
-use Rattle.table.specs.declared.Move.TheVariants.{Nowhere, To}
 use Rattle.table.specs.declared.Table.{Table}
 use Rattle.soundness.proofs.Rules.{Rules, sound_rules, move_leads}
 use Rattle.channels.specs.Channels.{no_request, ends_ready}
@@ -62,10 +61,10 @@ unfolding sent_below
 sent_ranged b mask g m w h =
     turns_keep WorkInRange (sent_at mask m) b w (λ y v below k. either WorkInRange (member_of mask y) (sent_across v y m) v k k) h
 
-moved_ranged : (moves : List ℕ) (gates b : ℕ) (to : Move) (w : Work) → WorkInRange w → WorkInRange (moved_to moves gates b to w)
+moved_ranged : (moves : List ℕ) (gates b : ℕ) (to : Option ℕ) (w : Work) → WorkInRange w → WorkInRange (moved_to moves gates b to w)
 unfolding announced
-moved_ranged moves gates b Nowhere w h = h
-moved_ranged moves gates b (To y) w h =
+moved_ranged moves gates b None w h = h
+moved_ranged moves gates b (Some y) w h =
     turns_keep WorkInRange (announced_at moves gates b y) gates (with w (with_mode (at_state w.task y) Free) w.ok)
     (λ g v below k. either WorkInRange (ready_of moves b y g && not (ends_ready (up_of v.task g))) (sent_up v g Ready) v k k) h
 
@@ -76,10 +75,10 @@ module _ (T : Table) (R : Rules T) (room : length T.vectors ≡ 16) (t : ℕ) (h
       let g : r.gate.0 < 16 = omega (arith, d.gate, R.gates) in
       record { gate = g; vector = omega (arith, d.vector, R.vectors r.gate.0 g) }
 
-  accepted_ranged : (r : Request) (mask : ℕ) (above : Found) (w : Work) → InRange r → WorkInRange w
+  accepted_ranged : (r : Request) (mask : ℕ) (above : Option TaskNo) (w : Work) → InRange r → WorkInRange w
       → WorkInRange (accepted T.moves T.gates t r mask above w)
-  accepted_ranged r mask (found.Task c) w i h = h
-  accepted_ranged r mask found.Nobody w i h =
+  accepted_ranged r mask (Some c) w i h = h
+  accepted_ranged r mask None w i h =
       moved_ranged T.moves T.gates t (move_of T.moves t w.task.state r.gate.0)
       (sent t mask r.gate.0 (Commit r.gate) (entered w r))
       (sent_ranged t mask r.gate.0 (Commit r.gate) (entered w r)
@@ -117,7 +116,7 @@ module _ (T : Table) (R : Rules T) (room : length T.vectors ≡ 16) (t : ℕ) (h
     at_task_ranged Ready f = none 16
     at_task_ranged (Lock r) f = locked_ranged r p.mode f
     at_task_ranged (Commit g) f =
-        let to : Move = move_of T.moves t p.state g.0 in
+        let to : Option ℕ = move_of T.moves t p.state g.0 in
         either WorkInRange (held_by g.0 p.mode && ready_of T.moves t p.state g.0) _ (excluded p)
         (list_ranged p.count (moved_to T.moves T.gates t to (begun p))
         (moved_kept T R t here p.count to (begun p) (λ y e. (move_leads T R t p.state g.0 y e).target) h.kept)
@@ -139,7 +138,7 @@ module _ (at : ℕ) (w : Work) (log : List ℕ) (f : WorkInRange w) (h : LogInRa
       (subst InRange (sym (entry_new (at + n) r before (omega arith))) (f n)))
       (λ (e : k ≡ at + n → ⊥). subst InRange (sym (entry_old (at + n) r before k e))
       (written_ranged n (omega arith) k (omega arith)))
-      (eq_or_ne k (at + n))
+      (cases_eq k (at + n))
 
 module _ (T : Table) (room : length T.vectors ≡ 16) (s : State) (log : List ℕ) (z : SizedState s)
     (h : LogInRange s.logged log) where

@@ -1,4 +1,5 @@
 -- A request that a present task handles, and the messages that come to it, keep its rules.
+use Rattle.std.specs.Prelude.{Option, Some, None, is_some}
 use Prim.Native.Nat.{ℕ, suc, zero, ◌+◌, ◌<◌, ◌≤◌}
 use mathlib.Core.Bool.{Bool, true, false, cond, ◌&&◌, true≢false}
 use mathlib.Core.Logic.{⊎_elim}
@@ -7,15 +8,14 @@ use native.Mathlib.Omega.{arith}
 use lib.Dec.{ltb}
 use lib.ListN.{get_or, length, get_or-eq_default}
 use borrow.Author.Tests.{lt-ltb, ltb-true, eq-eqb, eqb-true}
-use Rattle.laws.proofs.Tests.{and_left, and-true, le_or_lt, either}
+use Rattle.std.proofs.lemmas.Bool.{and_from, and_parts}
+use Rattle.laws.proofs.Tests.{le_or_lt, either}
 use Rattle.sets.specs.Sets.{member_of, next_above_of}
-use Rattle.sets.specs.declared.Found.{Found}
-use Rattle.sets.specs.declared.Found.TheVariants as found
+use Rattle.numbers.specs.declared.TaskNo.{TaskNo}
 use Rattle.sets.proofs.Members.{member_under}
 use Rattle.sets.proofs.Ends.{next_says}
 use Rattle.table.specs.Tables.{mask_of, move_of, ready_of}
 use Rattle.table.specs.declared.Table.{Table}
-use Rattle.table.specs.declared.Move.TheVariants.{To}
 use Rattle.soundness.proofs.Rules.{Rules, below_by, move_leads}
 use Rattle.channels.specs.Channels.{no_request}
 use Rattle.channels.specs.declared.Request.{Request}
@@ -25,7 +25,7 @@ use Rattle.state.specs.States.{with_mode, with_last, without_front}
 use Rattle.state.specs.declared.Mode.{Mode}
 use Rattle.state.specs.declared.Mode.TheVariants.{Free, Held}
 use Rattle.state.specs.declared.Task.{Task}
-use Rattle.sound_state.specs.SoundState.{is_somebody, up_fits}
+use Rattle.sound_state.specs.SoundState.{up_fits}
 use Rattle.tasks.specs.Parts.{waits}
 use Rattle.tasks.specs.Tasks.{with, begun, excluded, entered, sent, is_free, held_by, accepted, moved_to, handled, list_handled, locked, at_task}
 use Rattle.tasks.specs.declared.Work.{Work}
@@ -44,7 +44,7 @@ module _ (T : Table) (R : Rules T) (room : length T.vectors ≡ 16) where
   named t r h =
       let g : ℕ = r.gate.0 in
       let v : r.vector < get_or T.vectors g 0 =
-      ltb-true _ _ (and_left (ltb r.vector (get_or T.vectors g 0)) _ h) in
+      ltb-true _ _ ((and_parts (ltb r.vector (get_or T.vectors g 0)) _ h).0) in
       let g16 : g < 16 = ⊎_elim
       (λ (l : 16 ≤ g). absurd (omega (arith, get_or-eq_default T.vectors 0 {n = g} (omega arith))))
       (λ (l : g < 16). l)
@@ -59,7 +59,7 @@ module _ (T : Table) (R : Rules T) (room : length T.vectors ≡ 16) where
 -- Task t of a sound table.
 module _ (T : Table) (R : Rules T) (room : length T.vectors ≡ 16) (t : ℕ) (here : t < T.tasks) where
   -- its moves lead to its states
-  leads : (x g y : ℕ) → move_of T.moves t x g ≡ To y → y < get_or T.states t 0
+  leads : (x g y : ℕ) → move_of T.moves t x g ≡ Some y → y < get_or T.states t 0
   leads x g y e = (move_leads T R t x g y e).target
 
   abbrev mask_in : Request → ℕ
@@ -74,19 +74,19 @@ module _ (T : Table) (R : Rules T) (room : length T.vectors ≡ 16) (t : ℕ) (h
     result_kept r m w a f h =
         let d = named T R room t r h in
         sent_kept T R t here n (mask_in r) r.gate.0 m w d.gate
-        (λ y l. a y ∙ and-true _ _ (lt-ltb y t l) (lt-ltb r.gate.0 T.gates d.gate)) f
+        (λ y l. a y ∙ and_from _ _ (lt-ltb y t l) (lt-ltb r.gate.0 T.gates d.gate)) f
 
-    accepted_kept : (r : Request) (above : Found) (w : Work) → next_above_of (mask_in r) t ≡ above → names_of T t r ≡ true
+    accepted_kept : (r : Request) (above : Option TaskNo) (w : Work) → next_above_of (mask_in r) t ≡ above → names_of T t r ≡ true
         → Kept T t n w.task → Kept T t n (accepted T.moves T.gates t r (mask_in r) above w).task
-    accepted_kept r (found.Task c) w e h k =
+    accepted_kept r (Some c) w e h k =
         let d = named T R room t r h in
         let f = next_says (mask_in r) t c e in
         let v : names_of T c.0 r ≡ true =
-        and-true _ _ (lt-ltb r.vector (get_or T.vectors r.gate.0 0) d.vector) f.member in
+        and_from _ _ (lt-ltb r.vector (get_or T.vectors r.gate.0 0) d.vector) f.member in
         to_task_kept T R t here n (with w (with_mode w.task (Held r)) w.ok) c.0 (Lock r)
-        (d.tasks c.0 f.member) (and-true _ _ (lt-ltb t c.0 f.low) v)
-        (mode_kept T t n w.task k (Held r) (and-true _ _ h (ap is_somebody e)))
-    accepted_kept r found.Nobody w e h k =
+        (d.tasks c.0 f.member) (and_from _ _ (lt-ltb t c.0 f.low) v)
+        (mode_kept T t n w.task k (Held r) (and_from _ _ h (ap is_some e)))
+    accepted_kept r None w e h k =
         moved_kept T R t here n (move_of T.moves t w.task.state r.gate.0)
         (sent t (mask_in r) r.gate.0 (Commit r.gate) (entered w r)) (leads w.task.state r.gate.0)
         (result_kept r (Commit r.gate) (entered w r) (λ y. refl) (eq-eqb r.gate.0 r.gate.0 refl) h k)

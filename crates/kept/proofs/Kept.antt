@@ -8,7 +8,7 @@ use native.Mathlib.Omega.{arith}
 use lib.Dec.{ltb}
 use lib.ListN.{get_or, length}
 use Rattle.answers.specs.Answers.{is_done}
-use Rattle.laws.proofs.Tests.{true_or_false}
+use Rattle.std.proofs.lemmas.Bool.{cases_Bool}
 use Rattle.table.specs.declared.Table.{Table}
 use Rattle.soundness.proofs.Rules.{Rules, sound_rules}
 use Rattle.channels.specs.Channels.{empty1, popped3}
@@ -138,7 +138,7 @@ module _ (T : Table) (s : State) (log : List ℕ) (from to : ℕ) where
       let e = refused_changes_nothing T s log from to d in
       subst (λ (l : List ℕ). sound_for T outcome.state (length l) ≡ true) (sym e.1)
       (subst (λ (x : State). sound_for T x (length log) ≡ true) (sym e.0) h))
-      (true_or_false (is_done outcome.answer))
+      (cases_Bool (is_done outcome.answer))
 
   pub outcome_sized : length T.vectors ≡ 16 → SizedState s → SizedState (delivered T s log from to).state
   outcome_sized room z = ⊎_elim
@@ -146,4 +146,4 @@ module _ (T : Table) (s : State) (log : List ℕ) (from to : ℕ) where
       (after T room s log z outcome (ends T s log from to) d))
       (λ (d : is_done outcome.answer ≡ false). subst SizedState
       (sym (refused_changes_nothing T s log from to d).0) z)
-      (true_or_false (is_done outcome.answer))
+      (cases_Bool (is_done outcome.answer))

@@ -8,7 +8,7 @@ use native.Mathlib.Omega.{arith}
 use lib.ListN.{get_or, set, length, length-set}
 use lib.Seq.{get_or-set_same}
 use Rattle.answers.specs.Answers.{is_done}
-use Rattle.laws.proofs.Stores.{set_other}
+use Rattle.std.proofs.lemmas.List.{get_or-set_other}
 use Rattle.laws.proofs.Turning.{turns_keep}
 use Rattle.channels.specs.Channels.{no_request}
 use Rattle.channels.specs.declared.Request.{Request}
@@ -34,17 +34,17 @@ entry_at log k = record { gate = record { 0 = get_or log (k * 2) 0 }; vector = g
 module _ (n : ℕ) (r : Request) (log : List ℕ) where
   pub entry_new : n * 2 + 1 < length log → entry_at (entered_in_log n r log) n ≡ r
   entry_new h = rw (
-    set_other (set log (n * 2) r.gate.0) (n * 2 + 1) (n * 2) r.vector (λ e. omega arith),
+    get_or-set_other (set log (n * 2) r.gate.0) (n * 2 + 1) (n * 2) r.vector 0 (λ e. omega arith),
     get_or-set_same log (n * 2) r.gate.0 0 (omega arith),
     get_or-set_same (set log (n * 2) r.gate.0) (n * 2 + 1) r.vector 0 (simp length-set h),
   )
 
   pub entry_old : (k : ℕ) → (k ≡ n → ⊥) → entry_at (entered_in_log n r log) k ≡ entry_at log k
   entry_old k h = rw (
-    set_other (set log (n * 2) r.gate.0) (n * 2 + 1) (k * 2) r.vector (λ e. omega arith),
-    set_other log (n * 2) (k * 2) r.gate.0 (λ e. h (omega arith)),
-    set_other (set log (n * 2) r.gate.0) (n * 2 + 1) (k * 2 + 1) r.vector (λ e. h (omega arith)),
-    set_other log (n * 2) (k * 2 + 1) r.gate.0 (λ e. omega arith),
+    get_or-set_other (set log (n * 2) r.gate.0) (n * 2 + 1) (k * 2) r.vector 0 (λ e. omega arith),
+    get_or-set_other log (n * 2) (k * 2) r.gate.0 0 (λ e. h (omega arith)),
+    get_or-set_other (set log (n * 2) r.gate.0) (n * 2 + 1) (k * 2 + 1) r.vector 0 (λ e. h (omega arith)),
+    get_or-set_other log (n * 2) (k * 2 + 1) r.gate.0 0 (λ e. omega arith),
   )
 
 -- entries written change no length
@@ -62,9 +62,9 @@ module _ (at : ℕ) (w : Work) (log : List ℕ) where
       → get_or (written at w.entries w.fired log) i 0 ≡ get_or log i 0
   unfolding written
   written_other i h = turns_keep (λ (l : List ℕ). get_or l i 0 ≡ get_or log i 0) (written_at at w.entries) w.fired log
-      (λ k l below e. set_other (set l ((at + k) * 2) (get_or w.entries k no_request).gate.0) ((at + k) * 2 + 1) i
-      (get_or w.entries k no_request).vector (h k below).1
-      ∙ set_other l ((at + k) * 2) i (get_or w.entries k no_request).gate.0 (h k below).0 ∙ e) refl
+      (λ k l below e. get_or-set_other (set l ((at + k) * 2) (get_or w.entries k no_request).gate.0) ((at + k) * 2 + 1) i
+      (get_or w.entries k no_request).vector 0 (h k below).1
+      ∙ get_or-set_other l ((at + k) * 2) i (get_or w.entries k no_request).gate.0 0 (h k below).0 ∙ e) refl
 
 at_task_lem : (s popped : State) (log : List ℕ) (b : ℕ) (w : Work) → s.logged ≤ length log / 2 → HasRoom s log w
     → LogBehind s log (done_at_task s popped log b w)

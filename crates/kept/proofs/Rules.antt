@@ -1,4 +1,5 @@
 -- The rules of a sound task and of a sound gate, one by one; and back.
+use Rattle.std.specs.Prelude.{is_some}
 use Prim.Native.Nat.{ℕ, ◌<◌, ◌≤◌}
 use mathlib.Core.Bool.{Bool, true, false, ◌&&◌, true≢false}
 use mathlib.Core.Path.{◌≡◌, refl, sym, subst}
@@ -6,7 +7,7 @@ use lib.Dec.{eqb, ltb, leb}
 use lib.ListN.{get_or, length}
 use borrow.Author.Tests.{leb-true, le-leb, eqb-true, eq-eqb}
 use Rattle.laws.proofs.Numbers.{below_at, below_of}
-use Rattle.laws.proofs.Tests.{and_left, and_right, and-true}
+use Rattle.std.proofs.lemmas.Bool.{and_from, and_parts}
 use Rattle.sets.specs.Sets.{all_below_of, next_above_of}
 use Rattle.table.specs.Tables.{mask_of}
 use Rattle.table.specs.declared.Table.{Table}
@@ -22,8 +23,8 @@ use Rattle.state.specs.declared.Mode.TheVariants.{Free, Held}
 use Rattle.state.specs.declared.Task.{Task}
 use Rattle.state.specs.declared.Gate.{Gate}
 use Rattle.tasks.specs.Tasks.{is_free}
-use Rattle.sound_state.specs.SoundState.{is_somebody, up_sound, deal_sound, names, mode_sound, across_fits, down_fits, task_sound, gate_sound}
-use Rattle.sound_state.specs.Parts.{one_sound, state_sound, room, ups_sound, waitings_sound, acrosses_sound, downs_sound, waiting_sound}
+use Rattle.sound_state.specs.SoundState.{up_sound, deal_sound, names, mode_sound, across_fits, down_fits, task_sound, gate_sound}
+use Rattle.sound_state.specs.Parts.{one_sound, state_sound, room, ups_sound, waitings_sound, channels_sound, waiting_sound}
 
 -- the lists of a task and of a gate have the lengths of their arrays
 pub record SizedTask (p : Task) : Type 0 where
@@ -42,7 +43,7 @@ module _ (T : Table) where
   -- "a Held task lies in the named vector and isn't its highest"
   abbrev pub held_sound : ℕ → Mode → Bool
   held_sound t Free = true
-  held_sound t (Held r) = names_of t r && is_somebody (next_above_of (mask_of T.masks r.gate.0 r.vector) t)
+  held_sound t (Held r) = names_of t r && is_some (next_above_of (mask_of T.masks r.gate.0 r.vector) t)
 
   abbrev pub up_rule : ℕ → ℕ → Channel3 → Bool
   up_rule t g c = up_sound (ltb t T.tasks && ltb g T.gates) g c
@@ -119,23 +120,23 @@ module _ (T : Table) where
       let C : Bool = leb p.count 16 in
       let D : Bool = waitings_sound T.vectors T.masks t p.count p.waiting in
       let E : Bool = ups_sound (ltb t T.tasks) T.gates p.up in
-      let F : Bool = acrosses_sound T.vectors T.masks T.tasks T.gates (ltb t T.tasks) t p.across in
-      let one : (A && (B && C)) ≡ true = and_left (A && (B && C)) (D && (E && F)) h in
-      let two : (D && (E && F)) ≡ true = and_right (A && (B && C)) (D && (E && F)) h in
-      let bc : (B && C) ≡ true = and_right A (B && C) one in
-      let ef : (E && F) ≡ true = and_right D (E && F) two in
+      let F : Bool = channels_sound (ltb t T.tasks) T.tasks (across_fit T t) p.across in
+      let one : (A && (B && C)) ≡ true = (and_parts (A && (B && C)) (D && (E && F)) h).0 in
+      let two : (D && (E && F)) ≡ true = (and_parts (A && (B && C)) (D && (E && F)) h).1 in
+      let bc : (B && C) ≡ true = (and_parts A (B && C) one).1 in
+      let ef : (E && F) ≡ true = (and_parts D (E && F) two).1 in
       record {
         kept = record {
           sized = z;
-          state = and_left A (B && C) one;
-          held = mode_held T t p.count p.mode (and_left B C bc);
+          state = (and_parts A (B && C) one).0;
+          held = mode_held T t p.count p.mode ((and_parts B C bc).0);
           counted = refl;
-          few = leb-true p.count 16 (and_right B C bc);
-          waiting = below_at 16 _ (and_left D (E && F) two);
-          up = below_at 16 _ (and_left E F ef);
-          across = below_at 16 _ (and_right E F ef);
+          few = leb-true p.count 16 ((and_parts B C bc).1);
+          waiting = below_at 16 _ ((and_parts D (E && F) two).0);
+          up = below_at 16 _ ((and_parts E F ef).0);
+          across = below_at 16 _ ((and_parts E F ef).1);
         };
-        free = mode_free T t p.count p.mode (and_left B C bc);
+        free = mode_free T t p.count p.mode ((and_parts B C bc).0);
       }
 
   pub task_sound_lem : (t : ℕ) (p : Task) → TaskRules T t p
@@ -143,9 +144,9 @@ module _ (T : Table) where
   unfolding task_sound
   task_sound_lem t p r =
       let k = r.kept in
-      and-true _ _ (and-true _ _ k.state
-      (and-true _ _ (mode_of T t p.count p.mode k.held r.free) (le-leb p.count 16 k.few)))
-      (and-true _ _ (below_of 16 _ k.waiting) (and-true _ _ (below_of 16 _ k.up) (below_of 16 _ k.across)))
+      and_from _ _ (and_from _ _ k.state
+      (and_from _ _ (mode_of T t p.count p.mode k.held r.free) (le-leb p.count 16 k.few)))
+      (and_from _ _ (below_of 16 _ k.waiting) (and_from _ _ (below_of 16 _ k.up) (below_of 16 _ k.across)))
 
   pub gate_rules : (g : ℕ) (k : Gate) → SizedGate k
       → gate_sound T.vectors T.masks T.tasks T.gates g k ≡ true → GateRules T g k
@@ -153,28 +154,28 @@ module _ (T : Table) where
   gate_rules g k z h =
       let A : Bool = all_below_of k.offers (room (ltb g T.gates) T.tasks) in
       let B : Bool = deal_sound T.vectors g k.deal in
-      let C : Bool = downs_sound T.vectors T.masks T.tasks (ltb g T.gates) g k.down in
-      let one : (A && B) ≡ true = and_left (A && B) C h in
+      let C : Bool = channels_sound (ltb g T.gates) T.tasks (down_fit T g) k.down in
+      let one : (A && B) ≡ true = (and_parts (A && B) C h).0 in
       record {
         sized = z;
-        offers = and_left A B one;
-        deal = and_right A B one;
-        down = below_at 16 _ (and_right (A && B) C h);
+        offers = (and_parts A B one).0;
+        deal = (and_parts A B one).1;
+        down = below_at 16 _ ((and_parts (A && B) C h).1);
       }
 
   pub gate_sound_lem : (g : ℕ) (k : Gate) → GateRules T g k
       → gate_sound T.vectors T.masks T.tasks T.gates g k ≡ true
   unfolding gate_sound
-  gate_sound_lem g k r = and-true _ _ (and-true _ _ r.offers r.deal) (below_of 16 _ r.down)
+  gate_sound_lem g k r = and_from _ _ (and_from _ _ r.offers r.deal) (below_of 16 _ r.down)
 
   pub across_comes : (a b : ℕ) (m : Message) → across_fit T a b m ≡ true → comes T b m ≡ true
   across_comes a b Ready h = refl
-  across_comes a b (Lock r) h = and_right (ltb a b) (names_of T b r) h
+  across_comes a b (Lock r) h = (and_parts (ltb a b) (names_of T b r) h).1
   across_comes a b (Commit g) h = refl
   across_comes a b (Abort g) h = refl
 
   pub down_comes : (g b : ℕ) (m : Message) → down_fit T g b m ≡ true → comes T b m ≡ true
   down_comes g b Ready h = refl
-  down_comes g b (Lock r) h = and_right (eqb r.gate.0 g) (names_of T b r) h
+  down_comes g b (Lock r) h = (and_parts (eqb r.gate.0 g) (names_of T b r) h).1
   down_comes g b (Commit c) h = refl
   down_comes g b (Abort c) h = refl

@@ -1,4 +1,5 @@
 -- What a present task sends keeps its rules: a message that fits, results to lower tasks and the gate, announcements.
+use Rattle.std.specs.Prelude.{Option, Some, None}
 use Prim.Native.Nat.{ℕ, ◌<◌}
 use mathlib.Core.Bool.{Bool, true, ◌&&◌, not}
 use mathlib.Core.Path.{◌≡◌, refl, sym, ◌∙◌, subst}
@@ -7,13 +8,12 @@ use lib.Dec.{ltb}
 use lib.ListN.{get_or, length-set}
 use borrow.Author.Tests.{lt-ltb}
 use Rattle.laws.proofs.Stores.{store_at}
-use Rattle.laws.proofs.Tests.{and-true, either}
+use Rattle.std.proofs.lemmas.Bool.{and_from}
+use Rattle.laws.proofs.Tests.{either}
 use Rattle.laws.proofs.Turning.{turns_keep}
 use Rattle.sets.specs.Sets.{member_of}
 use Rattle.table.specs.Tables.{ready_of}
 use Rattle.table.specs.declared.Table.{Table}
-use Rattle.table.specs.declared.Move.{Move}
-use Rattle.table.specs.declared.Move.TheVariants.{Nowhere, To}
 use Rattle.soundness.proofs.Rules.{Rules}
 use Rattle.channels.specs.Channels.{empty1, empty3, put1, put3, ends_ready}
 use Rattle.channels.specs.declared.Message.{Message}
@@ -83,10 +83,10 @@ module _ (T : Table) (t n : ℕ) (p : Task) (k : Kept T t n p) where
 module _ (T : Table) (R : Rules T) (t : ℕ) (here : t < T.tasks) (n : ℕ) where
   -- between parties that are present
   pub with_gate_lem : (g : ℕ) → g < T.gates → (ltb t T.tasks && ltb g T.gates) ≡ true
-  with_gate_lem g l = and-true _ _ (lt-ltb t T.tasks here) (lt-ltb g T.gates l)
+  with_gate_lem g l = and_from _ _ (lt-ltb t T.tasks here) (lt-ltb g T.gates l)
 
   pub with_task_lem : (b : ℕ) → b < T.tasks → (ltb t T.tasks && ltb b T.tasks) ≡ true
-  with_task_lem b l = and-true _ _ (lt-ltb t T.tasks here) (lt-ltb b T.tasks l)
+  with_task_lem b l = and_from _ _ (lt-ltb t T.tasks here) (lt-ltb b T.tasks l)
 
   pub to_gate_kept : (w : Work) (g : ℕ) (m : Message) → g < T.gates → up_fits g m ≡ true
       → Kept T t n w.task → Kept T t n (sent_up w g m).task
@@ -132,8 +132,8 @@ module _ (T : Table) (R : Rules T) (t : ℕ) (here : t < T.tasks) (n : ℕ) wher
     across = k.across;
   }
 
-  pub moved_kept : (to : Move) (w : Work) → ((y : ℕ) → to ≡ To y → y < get_or T.states t 0)
+  pub moved_kept : (to : Option ℕ) (w : Work) → ((y : ℕ) → to ≡ Some y → y < get_or T.states t 0)
       → Kept T t n w.task → Kept T t n (moved_to T.moves T.gates t to w).task
-  moved_kept Nowhere w h k = k
-  moved_kept (To y) w h k = announced_kept (with w (with_mode (at_state w.task y) Free) w.ok)
+  moved_kept None w h k = k
+  moved_kept (Some y) w h k = announced_kept (with w (with_mode (at_state w.task y) Free) w.ok)
       (mode_kept T t n (at_state w.task y) (at_state_kept w.task y (h y refl) k) Free refl)

@@ -9,7 +9,7 @@ use borrow.Author.Tests.{leb-true, le-leb}
 use Rattle.laws.specs.Below.{all_below}
 use Rattle.laws.proofs.Numbers.{below_at, below_of}
 use Rattle.laws.proofs.Stores.{store_at}
-use Rattle.laws.proofs.Tests.{and_left, and_right, and-true}
+use Rattle.std.proofs.lemmas.Bool.{and_from, and_parts}
 use Rattle.table.specs.declared.Table.{Table}
 use Rattle.soundness.specs.Sound.{sound_table}
 use Rattle.state.specs.States.{task_of, gate_of, with_task, with_gate, no_task, no_gate}
@@ -47,14 +47,14 @@ module _ (T : Table) (s : State) where
         tasks = z.tasks;
         gates = z.gates;
         task = λ t l. task_rules T t (task_of s t) (z.task t l)
-            (below_at 16 A (and_left (all_below 16 A) (all_below 16 B) h) t l);
+            (below_at 16 A ((and_parts (all_below 16 A) (all_below 16 B) h).0) t l);
         gate = λ g l. gate_rules T g (gate_of s g) (z.gate g l)
-            (below_at 16 B (and_right (all_below 16 A) (all_below 16 B) h) g l);
+            (below_at 16 B ((and_parts (all_below 16 A) (all_below 16 B) h).1) g l);
       }
 
   pub state_sound_lem : StateRules T s → sound_in T s ≡ true
   unfolding sound_state
-  state_sound_lem r = and-true _ _
+  state_sound_lem r = and_from _ _
       (below_of 16 _ (λ t l. task_sound_lem T t (task_of s t) (r.task t l)))
       (below_of 16 _ (λ g l. gate_sound_lem T g (gate_of s g) (r.gate g l)))
 
@@ -94,13 +94,13 @@ pub record Sound (T : Table) (s : State) (log : List ℕ) : Type 0 where
 pub sound_says : (T : Table) (s : State) (log : List ℕ) → sound_for T s (length log) ≡ true → Sound T s log
 unfolding sound_for
 sound_says T s log h =
-    let k : (sound_in T s && leb s.logged (length log / 2)) ≡ true = and_right (sound_table T) _ h in
+    let k : (sound_in T s && leb s.logged (length log / 2)) ≡ true = (and_parts (sound_table T) _ h).1 in
     record {
-      table = and_left (sound_table T) _ h;
-      state = and_left (sound_in T s) _ k;
-      logged = leb-true s.logged (length log / 2) (and_right (sound_in T s) _ k);
+      table = (and_parts (sound_table T) _ h).0;
+      state = (and_parts (sound_in T s) _ k).0;
+      logged = leb-true s.logged (length log / 2) ((and_parts (sound_in T s) _ k).1);
     }
 
 pub sound_is : (T : Table) (s : State) (log : List ℕ) → Sound T s log → sound_for T s (length log) ≡ true
 unfolding sound_for
-sound_is T s log h = and-true _ _ h.table (and-true _ _ h.state (le-leb s.logged (length log / 2) h.logged))
+sound_is T s log h = and_from _ _ h.table (and_from _ _ h.state (le-leb s.logged (length log / 2) h.logged))

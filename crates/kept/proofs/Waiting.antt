@@ -9,7 +9,8 @@ use lib.Dec.{ltb, leb-suc-suc}
 use lib.ListN.{get_or, set, drop, length, length-set, length-drop, length-append, get_or-eq_default}
 use lib.Seq.{get_or-set_same, get_or-set_other}
 use borrow.Author.Tests.{lt-ltb, le-ltb}
-use Rattle.laws.proofs.Tests.{eq_or_ne, ltb_other, le_or_lt}
+use Rattle.std.proofs.lemmas.Bool.{cases_eq}
+use Rattle.laws.proofs.Tests.{ltb_other, le_or_lt}
 use Rattle.table.specs.declared.Table.{Table}
 use Rattle.channels.specs.Channels.{no_request}
 use Rattle.channels.specs.declared.Request.{Request}
@@ -90,7 +91,7 @@ module _ (T : Table) (t n : ℕ) (p : Task) where
             ) h)
             (λ (e : i ≡ n → ⊥). subst (Waits i (n + 1)) (sym (get_or-set_other p.waiting n i r no_request e))
             (rw (ltb_other i n e) (k.waiting i m)))
-            (eq_or_ne i n);
+            (cases_eq i n);
         up = k.up;
         across = k.across;
       }

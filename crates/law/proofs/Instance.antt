@@ -1,10 +1,10 @@
 -- The law has instances: the paper's table E is accepted, its 13 deliveries fire vector 0 of gate 1 and come to rest, and
 -- the law holds of that run.
+use Rattle.std.specs.Prelude.{Ok}
 use Prim.Native.Nat.{ℕ}
 use mathlib.Core.Bool.{true, false}
 use mathlib.Core.List.{List, [], ◌∷◌}
 use mathlib.Core.Path.{◌≡◌, refl}
-use Rattle.answers.specs.declared.Answer.TheVariants.{Done}
 use Rattle.laws.specs.Below.{all_below, first_from}
 use Rattle.laws.specs.Each.{all_from}
 use Rattle.format.specs.Format.{head_fault}
@@ -38,7 +38,7 @@ before = 9 ∷ 9 ∷ 9 ∷ 9 ∷ []
 abbrev after : Outcome
 after = run_from table_of_e before schedule
 
-pub accepted_e : (read_of table_e).answer ≡ Done
+pub accepted_e : (read_of table_e).answer ≡ Ok tt
 unfolding all_below first_from head_fault walk record_at new_below kind_fault in_range is_ninth in_order field_fault with_record after_record fault_at with_record_at ended_of
 accepted_e = refl
 

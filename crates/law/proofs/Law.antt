@@ -1,10 +1,9 @@
 -- The law of the line: the third demand, for every accepted table, every log and all deliveries.
+use Rattle.std.specs.Prelude.{Some, Ok}
 use Prim.Native.Nat.{ℕ}
 use mathlib.Core.List.{List}
 use mathlib.Core.Path.{◌≡◌, sym, ap, ◌∙◌}
 use Rattle.answers.specs.Answers.{is_done}
-use Rattle.answers.specs.declared.Answer.TheVariants.{Done}
-use Rattle.table.specs.declared.Move.TheVariants.{To}
 use Rattle.table.specs.declared.Table.{Table}
 use Rattle.reader.specs.Reader.{read_of}
 use Rattle.accepted.proofs.Accepted.{accepted_sound, accepted_sized}
@@ -41,13 +40,13 @@ law_of T q before o r =
       none_waits = λ h. none_waits_lem T q s R log h i;
       none_ready = λ h. none_ready_lem T q s R log h i;
       exact = λ t n. ap (λ (at : ℕ → ℕ). at t) l.replay_is ∙ exact_state T q s log R i t n;
-      one_behind = λ t a g c. behind_state T q s log R i t a g c ∙ ap (λ (at : ℕ → ℕ). To (at t)) (sym l.replay_is);
+      one_behind = λ t a g c. behind_state T q s log R i t a g c ∙ ap (λ (at : ℕ → ℕ). Some (at t)) (sym l.replay_is);
       one_commit = λ t a b g h. one_commit_lem T q s log R i t a b g h;
       one_token = one_under_way (plan_of T) q.right 16 16 q.rules.tasks q.rules.gates (line_of s log) i;
       live = live_here T q s log f;
     }
 
-module _ (file log : List ℕ) (accepted : (read_of file).answer ≡ Done) (deliveries : List Delivery) where
+module _ (file log : List ℕ) (accepted : (read_of file).answer ≡ Ok tt) (deliveries : List Delivery) where
   abbrev table : Table
   table = (read_of file).table
 

@@ -1,4 +1,5 @@
 -- Every message that is there can be delivered, or finds the log full; where one is undelivered there is such a delivery.
+use Rattle.std.specs.Prelude.{Option, Some, Ok, Err}
 use Prim.Native.Nat.{ℕ, ◌+◌, ◌-◌, ◌<◌, ◌≤◌}
 use mathlib.Core.Bool.{false, true}
 use mathlib.Core.List.{List}
@@ -9,9 +10,9 @@ use lib.Dec.{ltb}
 use borrow.Author.Tests.{eqb-false, le-ltb, lt-ltb, ltb-true, ne_eqb}
 use Rattle.laws.specs.Below.{all_below}
 use Rattle.laws.proofs.Numbers.{below_false}
-use Rattle.laws.proofs.Tests.{and_false, and_left}
-use Rattle.answers.specs.declared.Answer.{Answer}
-use Rattle.answers.specs.declared.Answer.TheVariants.{Done, LogFull}
+use Rattle.std.proofs.lemmas.Bool.{and_cases, and_parts}
+use Rattle.answers.specs.Answers.{Answer}
+use Rattle.answers.specs.declared.Refusal.TheVariants.{LogFull}
 use Rattle.numbers.specs.Endpoints.{endpoint_of}
 use Rattle.numbers.specs.declared.Endpoint.{Endpoint}
 use Rattle.numbers.specs.declared.Endpoint.TheVariants.{Gate, Task}
@@ -34,13 +35,13 @@ use Rattle.law.proofs.There.{across_there, down_there, up_there}
 
 -- a message is delivered, or refused for want of room in the log alone
 abbrev GoesOn : Answer → Type 0
-GoesOn a = (a ≡ Done) ⊎ (a ≡ LogFull)
+GoesOn a = (a ≡ Ok tt) ⊎ (a ≡ Err LogFull)
 
 -- the endpoints of tasks and gates that are present
-task_endpoint : (T : Table) (t : ℕ) → t < T.tasks → T.tasks ≤ 16 → endpoint_of T.tasks T.gates t ≡ Task (record { 0 = t })
+task_endpoint : (T : Table) (t : ℕ) → t < T.tasks → T.tasks ≤ 16 → endpoint_of T.tasks T.gates t ≡ Some (Task (record { 0 = t }))
 task_endpoint T t h l = rw (lt-ltb t 16 (omega arith), lt-ltb t T.tasks h)
 
-gate_endpoint : (T : Table) (g : ℕ) → g < T.gates → T.gates ≤ 16 → endpoint_of T.tasks T.gates (16 + g) ≡ Gate (record { 0 = g })
+gate_endpoint : (T : Table) (g : ℕ) → g < T.gates → T.gates ≤ 16 → endpoint_of T.tasks T.gates (16 + g) ≡ Some (Gate (record { 0 = g }))
 gate_endpoint T g h l =
     let e : 16 + g - 16 ≡ g = omega arith in
     rw (le-ltb (16 + g) 16 (omega arith), lt-ltb (16 + g) 32 (omega arith), e, lt-ltb g T.gates h)
@@ -48,9 +49,9 @@ gate_endpoint T g h l =
 -- no task sends itself anything
 pub not_itself : (T : Table) (a : ℕ) (m : Message) → across_fit T a a m ≡ true → ⊥
 not_itself T a Ready f = clash (sym f)
-not_itself T a (Lock r) f = let l = ltb-true a a (and_left (ltb a a) (names_of T a r) f) in omega arith
-not_itself T a (Commit h) f = let l = ltb-true a a (and_left (ltb a a) (ltb h.0 T.gates) f) in omega arith
-not_itself T a (Abort h) f = let l = ltb-true a a (and_left (ltb a a) (ltb h.0 T.gates) f) in omega arith
+not_itself T a (Lock r) f = let l = ltb-true a a ((and_parts (ltb a a) (names_of T a r) f).0) in omega arith
+not_itself T a (Commit h) f = let l = ltb-true a a ((and_parts (ltb a a) (ltb h.0 T.gates) f).0) in omega arith
+not_itself T a (Abort h) f = let l = ltb-true a a ((and_parts (ltb a a) (ltb h.0 T.gates) f).0) in omega arith
 
 module _ (T : Table) (q : Lawful T) (s : State) (log : List ℕ) (f : Safe T s log) where
   goes_on : (o : Outcome) → Made T s log o → GoesOn o.answer
@@ -58,7 +59,7 @@ module _ (T : Table) (q : Lawful T) (s : State) (log : List ℕ) (f : Safe T s l
   goes_on o (full e) = inr (ap (λ (x : Outcome). x.answer) e)
 
   -- a delivery between two endpoints that are there
-  by_endpoints : (from to : ℕ) (x y : Endpoint) → endpoint_of T.tasks T.gates from ≡ x → endpoint_of T.tasks T.gates to ≡ y
+  by_endpoints : (from to : ℕ) (x y : Option Endpoint) → endpoint_of T.tasks T.gates from ≡ x → endpoint_of T.tasks T.gates to ≡ y
       → Made T s log (way_taken T.moves T.masks T.gates s log T.vectors (way_of x y))
       → GoesOn (delivered T s log from to).answer
   unfolding delivered between
@@ -68,7 +69,7 @@ module _ (T : Table) (q : Lawful T) (s : State) (log : List ℕ) (f : Safe T s l
   up_goes_on t g n =
       let R = safe_rules T s log f in
       let p = up_there T s R t g n in
-      by_endpoints t (16 + g) (Task (record { 0 = t })) (Gate (record { 0 = g }))
+      by_endpoints t (16 + g) (Some (Task (record { 0 = t }))) (Some (Gate (record { 0 = g })))
       (task_endpoint T t p.0 q.rules.tasks) (gate_endpoint T g p.1 q.rules.gates)
       (made_to_gate T q s log R f.inv t g p.0 p.1 n)
 
@@ -76,7 +77,7 @@ module _ (T : Table) (q : Lawful T) (s : State) (log : List ℕ) (f : Safe T s l
   down_goes_on g b n =
       let R = safe_rules T s log f in
       let p = down_there T s R g b n in
-      by_endpoints (16 + g) b (Gate (record { 0 = g })) (Task (record { 0 = b }))
+      by_endpoints (16 + g) b (Some (Gate (record { 0 = g }))) (Some (Task (record { 0 = b })))
       (gate_endpoint T g p.0 q.rules.gates) (task_endpoint T b p.1 q.rules.tasks)
       (made_from_gate T q s log R (safe_fits T s log f) f.inv g b p.0 p.1 n)
 
@@ -86,14 +87,14 @@ module _ (T : Table) (q : Lawful T) (s : State) (log : List ℕ) (f : Safe T s l
       let p = across_there T s R a b n in
       let ne : a ≢ b = λ e. not_itself T b (across_of (task_of s a) b).first
       (subst (λ (x : ℕ). across_fit T x b (across_of (task_of s a) b).first ≡ true) e p.1.1) in
-      by_endpoints a b (Task (record { 0 = a })) (Task (record { 0 = b }))
+      by_endpoints a b (Some (Task (record { 0 = a }))) (Some (Task (record { 0 = b })))
       (task_endpoint T a p.0 q.rules.tasks) (task_endpoint T b p.1.0 q.rules.tasks)
       (rw (ne_eqb a b ne) (made_to_task T q s log R (safe_fits T s log f) f.inv a b p.0 p.1.0 ne n))
 
   -- the channel that holds the message
   pub live_here : quiet s ≡ false → (from to : ℕ) × GoesOn (delivered T s log from to).answer
   unfolding quiet
-  live_here h = ⊎_elim task gate (and_false (all_below 16 (tasks_quiet s)) (all_below 16 (gates_quiet s)) h)
+  live_here h = ⊎_elim task gate (and_cases (all_below 16 (tasks_quiet s)) (all_below 16 (gates_quiet s)) h)
     where
       up : (t : ℕ) → threes_quiet (task_of s t).up ≡ false → (from to : ℕ) × GoesOn (delivered T s log from to).answer
       up t e =
@@ -108,7 +109,7 @@ module _ (T : Table) (q : Lawful T) (s : State) (log : List ℕ) (f : Safe T s l
       task : all_below 16 (tasks_quiet s) ≡ false → (from to : ℕ) × GoesOn (delivered T s log from to).answer
       task e =
           let t = below_false 16 (tasks_quiet s) e in
-          ⊎_elim (up t.0) (across t.0) (and_false (threes_quiet (task_of s t.0).up) (ones_quiet (task_of s t.0).across) t.1.1)
+          ⊎_elim (up t.0) (across t.0) (and_cases (threes_quiet (task_of s t.0).up) (ones_quiet (task_of s t.0).across) t.1.1)
 
       gate : all_below 16 (gates_quiet s) ≡ false → (from to : ℕ) × GoesOn (delivered T s log from to).answer
       gate e =

@@ -1,4 +1,5 @@
 -- What is kept along any deliveries: the line is safe, and of the log only the bytes of its entries change.
+use Rattle.std.specs.Prelude.{Ok, Err}
 use Prim.Native.Nat.{ℕ, ◌*◌, ◌≤◌}
 use mathlib.Core.Bool.{true, false}
 use mathlib.Core.List.{List, [], ◌∷◌}
@@ -6,10 +7,9 @@ use mathlib.Core.Logic.{⊎_elim}
 use mathlib.Core.Path.{◌≡◌, refl, sym, ap, ◌∙◌, subst}
 use native.Mathlib.Omega.{arith}
 use lib.ListN.{get_or, length}
-use Rattle.answers.specs.Answers.{is_done, number_of}
-use Rattle.answers.specs.declared.Answer.{Answer}
-use Rattle.answers.specs.declared.Answer.TheVariants.{Done, NoChannel, ChannelEmpty, LogFull}
-use Rattle.laws.proofs.Tests.{true_or_false}
+use Rattle.answers.specs.Answers.{is_done, number_of, Answer}
+use Rattle.answers.specs.declared.Refusal.TheVariants.{NoChannel, ChannelEmpty, LogFull}
+use Rattle.std.proofs.lemmas.Bool.{cases_Bool}
 use Rattle.table.specs.declared.Table.{Table}
 use Rattle.schedule.specs.declared.Delivery.{Delivery}
 use Rattle.state.specs.declared.State.{State}
@@ -34,10 +34,10 @@ abbrev AllowedAt : Outcome → Type 0
 AllowedAt o = Allowed o.answer
 
 answer_allowed : (T : Table) (s : State) (log : List ℕ) (o : Outcome) → Answered T s log o → Allowed o.answer
-answer_allowed T s log o (no_channel e) = subst AllowedAt (sym e) (allowed_by NoChannel (omega arith))
-answer_allowed T s log o (empty e) = subst AllowedAt (sym e) (allowed_by ChannelEmpty (omega arith))
-answer_allowed T s log o (made (done e i)) = subst Allowed (sym e) (allowed_by Done (omega arith))
-answer_allowed T s log o (made (full e)) = subst AllowedAt (sym e) (allowed_by LogFull (omega arith))
+answer_allowed T s log o (no_channel e) = subst AllowedAt (sym e) (allowed_by (Err NoChannel) (omega arith))
+answer_allowed T s log o (empty e) = subst AllowedAt (sym e) (allowed_by (Err ChannelEmpty) (omega arith))
+answer_allowed T s log o (made (done e i)) = subst Allowed (sym e) (allowed_by (Ok tt) (omega arith))
+answer_allowed T s log o (made (full e)) = subst AllowedAt (sym e) (allowed_by (Err LogFull) (omega arith))
 
 pub next_allowed : (T : Table) (q : Lawful T) (s : State) (log : List ℕ) → Safe T s log → (from to : ℕ)
     → Allowed (delivered T s log from to).answer
@@ -71,7 +71,7 @@ module _ (T : Table) (q : Lawful T) (before : List ℕ) where
         behind = λ i h. ap (λ (l : List ℕ). get_or l i 0) e.1
             ∙ r.behind i (subst (λ (s : State). s.logged * 2 ≤ i) e.0 h);
       })
-      (true_or_false (is_done (delivered T o.state o.log from to).answer))
+      (cases_Bool (is_done (delivered T o.state o.log from to).answer))
 
   abbrev next : Outcome → Delivery → Outcome
   next o d = delivered T o.state o.log d.from d.to

@@ -1,14 +1,13 @@
 -- A task's state in the replay is its stored one, or one move ahead where a COMMIT travels to it.
+use Rattle.std.specs.Prelude.{Option, Some, None}
 use Prim.Native.Nat.{ℕ, ◌<◌}
 use mathlib.Core.Bool.{true}
 use mathlib.Core.List.{List, [], ◌∷◌}
 use mathlib.Core.Path.{◌≡◌, refl, sym, ap, ◌∙◌, subst}
 use lib.Dec.{ltb}
 use borrow.Author.Tests.{ltb-true}
-use Rattle.laws.proofs.Tests.{and_left}
+use Rattle.std.proofs.lemmas.Bool.{and_parts}
 use Rattle.table.specs.Tables.{move_of, is_move}
-use Rattle.table.specs.declared.Move.{Move}
-use Rattle.table.specs.declared.Move.TheVariants.{Nowhere, To}
 use Rattle.table.specs.declared.Table.{Table}
 use Rattle.channels.specs.declared.Message.{Message}
 use Rattle.channels.specs.declared.Message.TheVariants.{Commit}
@@ -40,9 +39,9 @@ commit_travels c g e = (some, (let z : c.first ∷ [] ≡ result true g ∷ [] =
     some : c.count ≡ 0 → ⊥
     some n = clash (let z : [] ≡ result true g ∷ [] = sym (empty_messages1 c n) ∙ e in cc)
 
-leads_to : (x : ℕ) (m : Move) → is_move m ≡ true → m ≡ To (moved x m)
-leads_to x Nowhere e = clash (sym e)
-leads_to x (To y) e = refl
+leads_to : (x : ℕ) (m : Option ℕ) → is_move m ≡ true → m ≡ Some (moved x m)
+leads_to x None e = clash (sym e)
+leads_to x (Some y) e = refl
 
 module _ (T : Table) (q : Lawful T) (s : State) (log : List ℕ) (R : StateRules T s) (i : Invariant (plan_of T) (line_of s log)) (t : ℕ) where
   pub exact_state : ((a g : ℕ) → Travels s a t (Commit (record { 0 = g })) → ⊥) → i.ghost.replayed t ≡ (task_of s t).state
@@ -52,17 +51,17 @@ module _ (T : Table) (q : Lawful T) (s : State) (log : List ℕ) (R : StateRules
   commit_from : (a g : ℕ) → Travels s a t (Commit (record { 0 = g })) → (t < a) × ((line_of s log).across a t ≡ result true g ∷ [])
   commit_from a g c =
       let fit = subst (λ (m : Message). across_fit T a t m ≡ true) c.1 (across_there T s R a t c.0).1.1 in (
-        ltb-true t a (and_left (ltb t a) (ltb g T.gates) fit),
+        ltb-true t a ((and_parts (ltb t a) (ltb g T.gates) fit).0),
         pop_messages1 (across_of (task_of s a) t) c.0 ∙ ap (λ (m : Message). m ∷ []) c.1,
       )
 
   pub behind_state : (a g : ℕ) → Travels s a t (Commit (record { 0 = g }))
-      → move_of T.moves t (task_of s t).state g ≡ To (i.ghost.replayed t)
+      → move_of T.moves t (task_of s t).state g ≡ Some (i.ghost.replayed t)
   behind_state a g c =
       let f = commit_from a g c in
       let ready = (result_at_task (plan_of T) q.right (line_of s log) i a t g true [] f.0 f.1).0.2 in
       leads_to (task_of s t).state (move_of T.moves t (task_of s t).state g) ready
-      ∙ ap To (sym (one_behind (plan_of T) (line_of s log) i t a g [] f.0 f.1))
+      ∙ ap Some (sym (one_behind (plan_of T) (line_of s log) i t a g [] f.0 f.1))
 
   pub one_commit_lem : (a b g h : ℕ) → Travels s a t (Commit (record { 0 = g })) → Travels s b t (Commit (record { 0 = h }))
       → (a ≡ b) × (g ≡ h)

@@ -10,7 +10,8 @@ use lib.ListN.{get_or-eq_default, get_or}
 use borrow.Author.Tests.{eqb-true, ltb-true}
 use Rattle.laws.specs.Below.{all_below}
 use Rattle.laws.proofs.Numbers.{below_at}
-use Rattle.laws.proofs.Tests.{and_left, and_right, eq_or_ne, le_or_lt}
+use Rattle.std.proofs.lemmas.Bool.{cases_eq, and_parts}
+use Rattle.laws.proofs.Tests.{le_or_lt}
 use Rattle.table.specs.Tables.{ready_of}
 use Rattle.table.specs.declared.Table.{Table}
 use Rattle.state.specs.States.{across_of, down_of, gate_of, no_task, task_of, up_of}
@@ -32,25 +33,25 @@ use Rattle.law.proofs.There.{across_there, down_there, up_there}
 
 -- a count that is 0 wherever there is a channel is 0
 zero_by : (n : ℕ) → (n ≢ 0 → n ≡ 0) → n ≡ 0
-zero_by n h = ⊎_elim (λ (e : n ≡ 0). e) (λ (e : n ≢ 0). h e) (eq_or_ne n 0)
+zero_by n h = ⊎_elim (λ (e : n ≡ 0). e) (λ (e : n ≢ 0). h e) (cases_eq n 0)
 
 module _ (T : Table) (q : Lawful T) (s : State) (R : StateRules T s) (log : List ℕ) (h : quiet s ≡ true) where
   quiet_tasks : (t : ℕ) → t < T.tasks → tasks_quiet s t ≡ true
   unfolding quiet
   quiet_tasks t l =
-      below_at 16 (tasks_quiet s) (and_left (all_below 16 (tasks_quiet s)) (all_below 16 (gates_quiet s)) h) t
+      below_at 16 (tasks_quiet s) ((and_parts (all_below 16 (tasks_quiet s)) (all_below 16 (gates_quiet s)) h).0) t
       (omega (arith, q.rules.tasks))
 
   quiet_gates : (g : ℕ) → g < T.gates → gates_quiet s g ≡ true
   unfolding quiet
   quiet_gates g l =
-      below_at 16 (gates_quiet s) (and_right (all_below 16 (tasks_quiet s)) (all_below 16 (gates_quiet s)) h) g
+      below_at 16 (gates_quiet s) ((and_parts (all_below 16 (tasks_quiet s)) (all_below 16 (gates_quiet s)) h).1) g
       (omega (arith, q.rules.gates))
 
   no_up : (t g : ℕ) → (up_of (task_of s t) g).count ≡ 0
   no_up t g = zero_by (up_of (task_of s t) g).count (λ n.
       let p = up_there T s R t g n in
-      let k = and_left (threes_quiet (task_of s t).up) (ones_quiet (task_of s t).across) (quiet_tasks t p.0) in
+      let k = (and_parts (threes_quiet (task_of s t).up) (ones_quiet (task_of s t).across) (quiet_tasks t p.0)).0 in
       eqb-true _ 0 (below_at 16 (three_quiet (task_of s t).up) k g (omega (arith, p.1, q.rules.gates))))
 
   no_down : (g b : ℕ) → (down_of (gate_of s g) b).count ≡ 0
@@ -61,7 +62,7 @@ module _ (T : Table) (q : Lawful T) (s : State) (R : StateRules T s) (log : List
   no_across : (a b : ℕ) → (across_of (task_of s a) b).count ≡ 0
   no_across a b = zero_by (across_of (task_of s a) b).count (λ n.
       let p = across_there T s R a b n in
-      let k = and_right (threes_quiet (task_of s a).up) (ones_quiet (task_of s a).across) (quiet_tasks a p.0) in
+      let k = (and_parts (threes_quiet (task_of s a).up) (ones_quiet (task_of s a).across) (quiet_tasks a p.0)).1 in
       eqb-true _ 0 (below_at 16 (one_quiet (task_of s a).across) k b (omega (arith, p.1.0, q.rules.tasks))))
 
   nothing_travels : Quiet (line_of s log)
@@ -95,7 +96,7 @@ module _ (T : Table) (q : Lawful T) (s : State) (R : StateRules T s) (log : List
         turn true e =
             let there : Bool = ltb v (get_or T.vectors g 0) in
             let all : Bool = all_below 16 (λ (t : ℕ). not (takes_part T g v t) || ready_of T.moves t (task_of s t).state g) in
-            let m = q.member g v (ltb-true v (get_or T.vectors g 0) (and_left there all e)) in
+            let m = q.member g v (ltb-true v (get_or T.vectors g 0) ((and_parts there all e).0)) in
             absurd (none_enabled (plan_of T) q.right (line_of s log) i nothing_travels g v m.0 m.1 (λ t n.
-            met t (takes_part T g v t) n (below_at 16 _ (and_right there all e) t
+            met t (takes_part T g v t) n (below_at 16 _ ((and_parts there all e).1) t
             (let p = (q.present g v t n).task in omega (arith, q.rules.tasks)))))

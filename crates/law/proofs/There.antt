@@ -8,7 +8,8 @@ use native.Mathlib.Omega.{arith}
 use lib.Dec.{leb, ltb}
 use lib.ListN.{get_or-eq_default, get_or, length}
 use borrow.Author.Tests.{leb-true, ltb-true}
-use Rattle.laws.proofs.Tests.{and_left, le_or_lt}
+use Rattle.std.proofs.lemmas.Bool.{and_parts}
+use Rattle.laws.proofs.Tests.{le_or_lt}
 use Rattle.table.specs.declared.Table.{Table}
 use Rattle.channels.specs.Channels.{empty1, empty3}
 use Rattle.state.specs.States.{across_of, down_of, gate_of, no_gate, no_task, task_of, up_of}
@@ -22,8 +23,8 @@ use Rattle.kept.proofs.States.{StateRules}
 present_by : (a b : Bool) (count n : ℕ) (rest : Bool) → (leb count (room (a && b) n) && rest) ≡ true → count ≢ 0
     → (a ≡ true) × (b ≡ true)
 present_by true true count n rest h k = (refl, refl)
-present_by true false count n rest h k = absurd (k (let l = leb-true count 0 (and_left (leb count 0) rest h) in omega arith))
-present_by false b count n rest h k = absurd (k (let l = leb-true count 0 (and_left (leb count 0) rest h) in omega arith))
+present_by true false count n rest h k = absurd (k (let l = leb-true count 0 ((and_parts (leb count 0) rest h).0) in omega arith))
+present_by false b count n rest h k = absurd (k (let l = leb-true count 0 ((and_parts (leb count 0) rest h).0) in omega arith))
 
 -- what is not empty is one of the 16
 inside : {A : Type 0} (l : List A) (d : A) (f : A → ℕ) → f d ≡ 0 → length l ≡ 16 → (i : ℕ) → f (get_or l i d) ≢ 0 → i < 16

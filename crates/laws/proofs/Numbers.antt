@@ -10,7 +10,8 @@ use native.Mathlib.Omega.{arith}
 use lib.ListN.{length, get_or}
 use Rattle.laws.specs.Below.{all_below}
 use Rattle.laws.specs.Each.{all_from}
-use Rattle.laws.proofs.Tests.{and_left, and_right, and_false_right, and_assoc, and_false}
+use Rattle.std.proofs.lemmas.Bool.{and_cases, and_parts, and_right}
+use Rattle.laws.proofs.Tests.{and_assoc}
 
 pub below_none : (P : ℕ → Bool) → all_below 0 P ≡ true
 unfolding all_below
@@ -28,8 +29,8 @@ pub below_at : (n : ℕ) (P : ℕ → Bool) → all_below n P ≡ true → (k : 
 unfolding all_below
 below_at zero P h k l = absurd (omega arith)
 below_at (suc n) P h k l = ⊎_elim
-    (λ (e : k ≡ n). ap P e ∙ and_left (P n) (all_below n P) h)
-    (λ (m : k < n). below_at n P (and_right (P n) (all_below n P) h) k m)
+    (λ (e : k ≡ n). ap P e ∙ (and_parts (P n) (all_below n P) h).0)
+    (λ (m : k < n). below_at n P ((and_parts (P n) (all_below n P) h).1) k m)
     (eq-or-lt_of_le (le_of_suc-le-suc l))
 
 pub below_of : (n : ℕ) (P : ℕ → Bool) → ((k : ℕ) → k < n → P k ≡ true) → all_below n P ≡ true
@@ -47,7 +48,7 @@ unfolding all_below
 below_fails zero P k l h = absurd (omega arith)
 below_fails (suc n) P k l h = ⊎_elim
     (λ (e : k ≡ n). rw (sym (ap P e) ∙ h))
-    (λ (m : k < n). and_false_right (P n) (all_below n P) (below_fails n P k m h))
+    (λ (m : k < n). and_right (P n) (all_below n P) (below_fails n P k m h))
     (eq-or-lt_of_le (le_of_suc-le-suc l))
 
 -- where not all below n pass there is one that fails
@@ -57,7 +58,7 @@ below_false zero P h = absurd (true≢false h)
 below_false (suc n) P h = ⊎_elim
     (λ (e : P n ≡ false). (n, (omega arith, e)))
     (λ (e : all_below n P ≡ false). let r = below_false n P e in (r.0, (omega (arith, r.1.0), r.1.1)))
-    (and_false (P n) (all_below n P) h)
+    (and_cases (P n) (all_below n P) h)
 
 -- tests that agree below n
 pub below_same : (n : ℕ) (P Q : ℕ → Bool) → ((k : ℕ) → k < n → P k ≡ Q k) → all_below n P ≡ all_below n Q

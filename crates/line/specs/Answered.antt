@@ -1,8 +1,8 @@
 -- What each delivery of a run answers. The law does not speak of it: `allowed` says more, of any delivery in any reached
 -- state.
-use Rattle.std.specs.Prelude.{List, [], ◌∷◌, ◌≢◌}
-use Rattle.answers.specs.declared.Answer.{Answer}
-use Rattle.answers.specs.declared.Answer.TheVariants.{Unsound, Excluded}
+use Rattle.std.specs.Prelude.{List, [], ◌∷◌, ◌≢◌, Err}
+use Rattle.answers.specs.Answers.{Answer}
+use Rattle.answers.specs.declared.Refusal.TheVariants.{Unsound, Excluded}
 use Rattle.table.specs.declared.Table.{Table}
 use Rattle.schedule.specs.declared.Delivery.{Delivery}
 use Rattle.delivery.specs.Delivery.{Outcome, delivered}
@@ -15,7 +15,7 @@ answers T o (d ∷ deliveries) =
 
 -- neither 11 nor 12
 abbrev pub Allowed : Answer → Type 0
-Allowed a = (a ≢ Unsound) × (a ≢ Excluded)
+Allowed a = (a ≢ (Err Unsound)) × (a ≢ (Err Excluded))
 
 -- each of a list is so
 abbrev pub Each : {A : Type 0} → (A → Type 0) → List A → Type 0

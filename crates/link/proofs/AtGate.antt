@@ -1,15 +1,15 @@
 -- A message at a gate is the protocol's: a READY or a result taken in, and the search behind it.
+use Rattle.std.specs.Prelude.{Option, Some, None}
 use Prim.Native.Nat.{ℕ, ◌<◌}
 use mathlib.Core.Bool.{Bool, ◌&&◌, ◌||◌, cond, false, not, true}
 use mathlib.Core.List.{List, []}
-use mathlib.Core.Option.{none, some}
 use mathlib.Core.Path.{◌≡◌, ◌∙◌, ap, fun_ext, refl, subst, sym}
 use native.Mathlib.Omega.{arith}
 use lib.Dec.{eqb, ltb}
 use lib.ListN.{get_or, length}
 use Rattle.laws.specs.Below.{first_from}
 use Rattle.sets.specs.Sets.{lowest_of, member_of, minus_of, union_of, with_of, without_of}
-use Rattle.sets.specs.declared.Found.{Found}
+use Rattle.numbers.specs.declared.TaskNo.{TaskNo}
 use Rattle.sets.proofs.Ends.{lowest_nobody, lowest_says}
 use Rattle.sets.proofs.Members.{member_minus, member_union, member_with, member_without}
 use Rattle.table.specs.Tables.{mask_of}
@@ -38,7 +38,6 @@ use Rattle.link.proofs.Channels.{empty_count1, put_messages1}
 use Rattle.link.proofs.Frame.{changed_at, changed_back, changed_twice, part_changed, part_kept, row_changed_from, row_changed_to, row_kept, set_row}
 use Rattle.link.proofs.Tables.{Lawful, covered_by, number_of, plan_of, subset_covered}
 use Rattle.link.proofs.View.{across_list, down_list, line_with, up_list, requests_of}
-use Rattle.sets.specs.declared.Found.TheVariants as found
 use Rattle.protocol.specs.Steps as step
 use Rattle.protocol.specs.Deliveries as protocol
 
@@ -134,7 +133,7 @@ module _ (T : Table) (q : Lawful T) (S : ℕ → Task) (G : ℕ → Gate) (log :
   stays = record { good = refl; is = ap (λ (f : ℕ → Gate). line_with S f log) (changed_back G g) }
 
   dealt_line : (v b : ℕ) → b < 16 → (G g).deal ≡ Idle
-      → Searched S G log g (sent_down (dealt_gate v) (found.Task (record { 0 = b })) (lock_of v)) (step.dealt (plan_of T) X g v b)
+      → Searched S G log g (sent_down (dealt_gate v) (Some (record { 0 = b })) (lock_of v)) (step.dealt (plan_of T) X g v b)
   dealt_line v b hb e =
       let c : Channel1 = down_of (G g) b in
       let long : b < length (G g).down = omega (arith, z.down) in
@@ -154,16 +153,16 @@ module _ (T : Table) (q : Lawful T) (S : ℕ → Task) (G : ℕ → Gate) (log :
         });
       }
 
-  dealt_shows : (v : ℕ) → (plan_of T).fitting g (member_of offers) ≡ some v → (G g).deal ≡ Idle
+  dealt_shows : (v : ℕ) → (plan_of T).fitting g (member_of offers) ≡ Some v → (G g).deal ≡ Idle
       → Searched S G log g (dealt T.masks vectors g (G g) v) (step.dealt (plan_of T) X g v ((plan_of T).lowest g v))
   dealt_shows v e i = turn (lowest_of (mask_of T.masks g v)) refl
     where
-      turn : (f : Found) → lowest_of (mask_of T.masks g v) ≡ f
+      turn : (f : Option TaskNo) → lowest_of (mask_of T.masks g v) ≡ f
           → Searched S G log g (sent_down (dealt_gate v) f (lock_of v)) (step.dealt (plan_of T) X g v (number_of f))
-      turn found.Nobody h = clash (
-          sym (subst (λ (f : Found). member_of (mask_of T.masks g v) (number_of f) ≡ true) h (q.right.lowest_in g v (member_of offers) e))
+      turn None h = clash (
+          sym (subst (λ (f : Option TaskNo). member_of (mask_of T.masks g v) (number_of f) ≡ true) h (q.right.lowest_in g v (member_of offers) e))
           ∙ lowest_nobody (mask_of T.masks g v) h 0 (omega arith))
-      turn (found.Task u) h = dealt_line v u.0 (lowest_says (mask_of T.masks g v) u h).high i
+      turn (Some u) h = dealt_line v u.0 (lowest_says (mask_of T.masks g v) u h).high i
 
   -- "After any of the three, a gate that is Idle searches"
   pub searched_shows : Searched S G log g (searched T.masks vectors g (G g)) (protocol.searched (plan_of T) X g)
@@ -173,9 +172,9 @@ module _ (T : Table) (q : Lawful T) (S : ℕ → Task) (G : ℕ → Gate) (log :
       fit : ℕ
       fit = first_from 0 (get_or T.vectors g 0) (λ v. covered_by (mask_of T.masks g v) (member_of (G g).offers))
 
-      found_one : (n : ℕ) (c : Bool) → (plan_of T).fitting g (member_of (G g).offers) ≡ cond c (some n) none → (G g).deal ≡ Idle
+      found_one : (n : ℕ) (c : Bool) → (plan_of T).fitting g (member_of (G g).offers) ≡ cond c (Some n) None → (G g).deal ≡ Idle
           → Searched S G log g (cond c (dealt T.masks vectors g (G g) n) (allowed (G g)))
-          (protocol.dealt_if (plan_of T) X g (cond c (some n) none))
+          (protocol.dealt_if (plan_of T) X g (cond c (Some n) None))
       found_one n true e i = dealt_shows n e i
       found_one n false e i = stays
 

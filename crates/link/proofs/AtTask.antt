@@ -1,4 +1,5 @@
 -- A message at a task is the protocol's: a LOCK handled or put last on the list, a result and the list behind it.
+use Rattle.std.specs.Prelude.{Option, Some, None}
 use Prim.Native.Nat.{ℕ, ◌+◌, ◌<◌, ◌≤◌}
 use mathlib.Core.Bool.{Bool, cond, false, true}
 use mathlib.Core.List.{List, [], ◌++◌, ◌∷◌}
@@ -9,8 +10,6 @@ use lib.ListN.{length, length-append, length-set, set}
 use lib.Seq.{take-suc-set}
 use borrow.Author.Tests.{lt-ltb}
 use Rattle.table.specs.Tables.{is_move, move_of, ready_of}
-use Rattle.table.specs.declared.Move.{Move}
-use Rattle.table.specs.declared.Move.TheVariants.{Nowhere, To}
 use Rattle.table.specs.declared.Table.{Table}
 use Rattle.channels.specs.declared.Request.{Request}
 use Rattle.state.specs.States.{with_mode, with_waiting}
@@ -111,10 +110,10 @@ module _ (T : Table) (q : Lawful T) (G : ℕ → Gate) (log : List Request) (b :
     same_state : s.at b ≡ p.state
     same_state = own_state G log b S (begun p) (lock_taken_across s u b) t
 
-    committed_shows : (to : Move) → is_move to ≡ true
+    committed_shows : (to : Option ℕ) → is_move to ≡ true
         → ShowsHere (moved_to T.moves T.gates b to (begun p)) (step.moved (plan_of T) (released s u b) b (moved p.state to))
-    committed_shows Nowhere e = clash (sym e)
-    committed_shows (To y) e =
+    committed_shows None e = clash (sym e)
+    committed_shows (Some y) e =
         moved_shows G log b S T q hb y (begun p) (lock_taken_across s u b) t (ready_room T q s i.ghost i.links b)
 
     held_ready : ready_of T.moves b p.state g ≡ true

@@ -1,5 +1,6 @@
 -- A delivery on a safe line: no such channel, an empty one, or a message that is delivered or finds the log full. The
 -- line stays safe.
+use Rattle.std.specs.Prelude.{Option, Some, None, Err}
 use Prim.Native.Nat.{ℕ, ◌*◌, ◌<◌, ◌≤◌}
 use mathlib.Core.Bool.{Bool, cond, false, true}
 use mathlib.Core.List.{List}
@@ -9,18 +10,17 @@ use native.Mathlib.Omega.{arith}
 use lib.Dec.{eqb}
 use lib.ListN.{length}
 use borrow.Author.Tests.{eq-eqb, eqb-false}
-use Rattle.answers.specs.declared.Answer.TheVariants.{ChannelEmpty, NoChannel}
-use Rattle.laws.proofs.Tests.{eq_or_ne}
+use Rattle.answers.specs.declared.Refusal.TheVariants.{NoChannel, ChannelEmpty}
+use Rattle.std.proofs.lemmas.Bool.{cases_eq}
 use Rattle.numbers.specs.Endpoints.{endpoint_of}
 use Rattle.numbers.specs.declared.Endpoint.{Endpoint}
-use Rattle.numbers.specs.declared.Endpoint.TheVariants.{Gate, Nobody, Task}
+use Rattle.numbers.specs.declared.Endpoint.TheVariants.{Gate, Task}
 use Rattle.table.specs.declared.Table.{Table}
 use Rattle.state.specs.States.{across_of, down_of, gate_of, task_of, up_of}
 use Rattle.state.specs.declared.Link.TheVariants.{FromGate, ToGate, ToTask}
 use Rattle.state.specs.declared.State.{State}
 use Rattle.delivery.specs.Delivery.{Outcome, along, between, delivered, refused, sound_for, delivered_at_gate, delivered_at_task, way_of, way_taken}
 use Rattle.delivery.specs.Within.{EndWithin}
-use Rattle.delivery.specs.declared.Way.TheVariants.{Along, Nowhere}
 use Rattle.fresh.specs.Fresh.{fresh_state}
 use Rattle.kept.proofs.Ends.{present}
 use Rattle.kept.proofs.Fresh.{fresh_all_sound, fresh_sized}
@@ -48,8 +48,8 @@ module _ (T : Table) where
   safe_fits s log f = let l = (sound_says T s log f.sound).logged in omega arith
 
   pub data Answered (s : State) (log : List ℕ) (o : Outcome) : Type 0 where
-    no_channel : o ≡ refused s log NoChannel → Answered s log o
-    empty : o ≡ refused s log ChannelEmpty → Answered s log o
+    no_channel : o ≡ refused s log (Err NoChannel) → Answered s log o
+    empty : o ≡ refused s log (Err ChannelEmpty) → Answered s log o
     made : Made T s log o → Answered s log o
 
 module _ (T : Table) (q : Lawful T) (s : State) (log : List ℕ) (f : Safe T s log) where
@@ -57,8 +57,8 @@ module _ (T : Table) (q : Lawful T) (s : State) (log : List ℕ) (f : Safe T s l
   R = safe_rules T s log f
 
   -- a channel of n messages that a delivery names
-  by_count : (n : ℕ) (o : Outcome) → ((n ≡ 0 → ⊥) → Made T s log o) → (n ≡ 0 → o ≡ refused s log ChannelEmpty) → Answered T s log o
-  by_count n o some none = ⊎_elim (λ (e : n ≡ 0). empty (none e)) (λ (e : n ≢ 0). made (some e)) (eq_or_ne n 0)
+  by_count : (n : ℕ) (o : Outcome) → ((n ≡ 0 → ⊥) → Made T s log o) → (n ≡ 0 → o ≡ refused s log (Err ChannelEmpty)) → Answered T s log o
+  by_count n o some none = ⊎_elim (λ (e : n ≡ 0). empty (none e)) (λ (e : n ≢ 0). made (some e)) (cases_eq n 0)
 
   at_gate : (t g : ℕ) → t < T.tasks → g < T.gates
       → Answered T s log (along T.moves T.masks T.gates s log T.vectors (ToGate (record { 0 = t }) (record { 0 = g })))
@@ -80,20 +80,20 @@ module _ (T : Table) (q : Lawful T) (s : State) (log : List ℕ) (f : Safe T s l
       (made_to_task T q s log R (safe_fits T s log f) f.inv a b ha hb ne)
       (λ e. rw (eq-eqb (across_of (task_of s a) b).count 0 e))
 
-  by_ends : (x y : Endpoint) → EndWithin T.tasks T.gates x → EndWithin T.tasks T.gates y
+  by_ends : (x y : Option Endpoint) → EndWithin T.tasks T.gates x → EndWithin T.tasks T.gates y
       → Answered T s log (way_taken T.moves T.masks T.gates s log T.vectors (way_of x y))
-  by_ends Nobody y p r = no_channel refl
-  by_ends (Task a) Nobody p r = no_channel refl
-  by_ends (Task a) (Task b) p r = turn (eqb a.0 b.0) refl
+  by_ends None y p r = no_channel refl
+  by_ends (Some (Task a)) None p r = no_channel refl
+  by_ends (Some (Task a)) (Some (Task b)) p r = turn (eqb a.0 b.0) refl
     where
       turn : (c : Bool) → eqb a.0 b.0 ≡ c
-          → Answered T s log (way_taken T.moves T.masks T.gates s log T.vectors (cond c Nowhere (Along (ToTask a b))))
+          → Answered T s log (way_taken T.moves T.masks T.gates s log T.vectors (cond c None (Some (ToTask a b))))
       turn true e = no_channel refl
       turn false e = to_task a.0 b.0 p r (eqb-false a.0 b.0 e)
-  by_ends (Task t) (Gate g) p r = at_gate t.0 g.0 p r
-  by_ends (Gate g) Nobody p r = no_channel refl
-  by_ends (Gate g) (Task b) p r = from_gate g.0 b.0 p r
-  by_ends (Gate g) (Gate h) p r = no_channel refl
+  by_ends (Some (Task t)) (Some (Gate g)) p r = at_gate t.0 g.0 p r
+  by_ends (Some (Gate g)) None p r = no_channel refl
+  by_ends (Some (Gate g)) (Some (Task b)) p r = from_gate g.0 b.0 p r
+  by_ends (Some (Gate g)) (Some (Gate h)) p r = no_channel refl
 
   pub answered : (from to : ℕ) → Answered T s log (delivered T s log from to)
   unfolding delivered between

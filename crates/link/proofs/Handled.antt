@@ -1,15 +1,13 @@
 -- A lock request handled at a Free task is the protocol's.
+use Rattle.std.specs.Prelude.{Option, Some, None}
 use Prim.Native.Nat.{ℕ, ◌<◌}
 use mathlib.Core.Bool.{Bool, cond, false, true}
 use mathlib.Core.List.{List}
-use mathlib.Core.Option.{some}
 use mathlib.Core.Path.{◌≡◌, ◌∙◌, ap, refl, subst, sym}
 use native.Mathlib.Omega.{arith}
 use Rattle.sets.specs.Sets.{next_above_of}
-use Rattle.sets.specs.declared.Found.{Found}
+use Rattle.numbers.specs.declared.TaskNo.{TaskNo}
 use Rattle.table.specs.Tables.{is_move, mask_of, move_of, ready_of}
-use Rattle.table.specs.declared.Move.{Move}
-use Rattle.table.specs.declared.Move.TheVariants.{Nowhere, To}
 use Rattle.table.specs.declared.Table.{Table}
 use Rattle.channels.specs.declared.Message.TheVariants.{Abort, Commit, Lock}
 use Rattle.channels.specs.declared.Request.{Request}
@@ -32,7 +30,6 @@ use Rattle.protocol.proofs.Tokens.{in_hand}
 use Rattle.link.proofs.Shows.{Shows, own_state}
 use Rattle.link.proofs.Tables.{Lawful, found_task, plan_of}
 use Rattle.link.proofs.Works.{entered_shows, freed, moved_shows, passed_shows, ready_room, sent_shows}
-use Rattle.sets.specs.declared.Found.TheVariants as found
 use Rattle.protocol.specs.Steps as step
 use Rattle.protocol.specs.Deliveries as protocol
 
@@ -70,7 +67,7 @@ module _ (T : Table) (q : Lawful T) (G : ℕ → Gate) (log : List Request) (b :
   refused_shows = sent_shows G log b S T q hb h r et eb hg false w x s j
 
   -- ready, with a higher task: LOCK to it
-  forwarded_shows : (c : ℕ) → (plan_of T).next_above g v b ≡ some c
+  forwarded_shows : (c : ℕ) → (plan_of T).next_above g v b ≡ Some c
       → ShowsHere (sent_across (with w (with_mode w.task (Held r)) w.ok) c (Lock r)) (forwarded x g v b c)
   forwarded_shows c e =
       let o = q.right.next_some g v b c e in
@@ -78,11 +75,11 @@ module _ (T : Table) (q : Lawful T) (G : ℕ → Gate) (log : List Request) (b :
       (j.higher b c o.1 ∙ rw eb (higher_idle c (h.passed_to b)))
 
   -- ready and highest: the entry, COMMIT, the move
-  fired_shows : (to : Move) → is_move to ≡ true
+  fired_shows : (to : Option ℕ) → is_move to ≡ true
       → ShowsHere (moved_to T.moves T.gates b to (sent b mask g (Commit r.gate) (entered w r)))
       (step.moved (plan_of T) (step.entered (result_sent (plan_of T) x g v b true) g v) b (moved w.task.state to))
-  fired_shows Nowhere e = clash (sym e)
-  fired_shows (To y) e =
+  fired_shows None e = clash (sym e)
+  fired_shows (Some y) e =
       let logged : Line = step.entered x g v in
       let j₁ : Links (plan_of T) logged h =
       record { gate = j.gate; task = j.task; higher = j.higher; lower = j.lower; own = j.own; pair = j.pair } in
@@ -93,13 +90,13 @@ module _ (T : Table) (q : Lawful T) (G : ℕ → Gate) (log : List Request) (b :
       let s₃ = moved_shows G log b S T q hb y (sent b mask g (Commit r.gate) (entered w r)) decided s₂
       (ready_room T q decided (decided_ghost (plan_of T) h g v b true) j₂ b) in
       let free : decided.mode b ≡ Free = (j.task b).mode_is ∙ rw eb in
-      subst (λ (a : Line). ShowsHere (moved_to T.moves T.gates b (To y) (sent b mask g (Commit r.gate) (entered w r))) (step.moved (plan_of T) a b y))
+      subst (λ (a : Line). ShowsHere (moved_to T.moves T.gates b (Some y) (sent b mask g (Commit r.gate) (entered w r))) (step.moved (plan_of T) a b y))
       (free_same decided b free) s₃
 
-  accepted_shows : is_move (move_of T.moves b w.task.state g) ≡ true → (f : Found) → next_above_of mask b ≡ f
+  accepted_shows : is_move (move_of T.moves b w.task.state g) ≡ true → (f : Option TaskNo) → next_above_of mask b ≡ f
       → ShowsHere (accepted T.moves T.gates b r mask f w) (protocol.accepted (plan_of T) x g v b (found_task f))
-  accepted_shows m found.Nobody e = rw (own_state G log b S w x s) (fired_shows (move_of T.moves b w.task.state g) m)
-  accepted_shows m (found.Task c) e = forwarded_shows c.0 (ap found_task e)
+  accepted_shows m None e = rw (own_state G log b S w x s) (fired_shows (move_of T.moves b w.task.state g) m)
+  accepted_shows m (Some c) e = forwarded_shows c.0 (ap found_task e)
 
   pub handled_shows : ShowsHere (handled T.moves T.gates b T.masks r w) (protocol.handled (plan_of T) x b r)
   unfolding handled

@@ -1,4 +1,5 @@
 -- What becomes of a message that is there: it is delivered and the protocol's invariant holds again, or the log is full.
+use Rattle.std.specs.Prelude.{Ok, Err}
 use Prim.Native.Nat.{ℕ, ◌*◌, ◌+◌, ◌-◌, ◌/◌, ◌<◌, ◌≤◌}
 use mathlib.Core.Bool.{Bool, cond, false, true}
 use mathlib.Core.List.{List}
@@ -7,7 +8,7 @@ use native.Mathlib.Omega.{arith}
 use lib.Dec.{ltb}
 use lib.ListN.{length}
 use borrow.Author.Tests.{ltb-false}
-use Rattle.answers.specs.declared.Answer.TheVariants.{Done, LogFull}
+use Rattle.answers.specs.declared.Refusal.TheVariants.{LogFull}
 use Rattle.table.specs.declared.Table.{Table}
 use Rattle.channels.specs.declared.Request.{Request}
 use Rattle.state.specs.States.{gate_of, task_of, with_gate, with_task}
@@ -30,8 +31,8 @@ use Rattle.gates.specs.declared.Work as gate
 
 module _ (T : Table) (s : State) (log : List ℕ) where
   pub data Made (o : Outcome) : Type 0 where
-    done : o.answer ≡ Done → Invariant (plan_of T) (line_of o.state o.log) → Made o
-    full : o ≡ refused s log LogFull → Made o
+    done : o.answer ≡ Ok tt → Invariant (plan_of T) (line_of o.state o.log) → Made o
+    full : o ≡ refused s log (Err LogFull) → Made o
 
   -- work at task b, where popped is the state without the message
   pub made_at_task : (popped : State) (b : ℕ) (hb : b < 16) (w : task.Work) (x : Line) → length popped.tasks ≡ 16
@@ -40,7 +41,7 @@ module _ (T : Table) (s : State) (log : List ℕ) where
       → Invariant (plan_of T) x → Made (settled_at_task s popped log b w)
   made_at_task popped b hb w x z fits r i = rw r.good (turn (ltb (length log / 2 - s.logged) w.fired) refl)
     where
-      turn : (c : Bool) → ltb (length log / 2 - s.logged) w.fired ≡ c → Made (cond c (refused s log LogFull) (done_at_task s popped log b w))
+      turn : (c : Bool) → ltb (length log / 2 - s.logged) w.fired ≡ c → Made (cond c (refused s log (Err LogFull)) (done_at_task s popped log b w))
       turn true e = full refl
       turn false e =
           let room = ltb-false (length log / 2 - s.logged) w.fired e in

@@ -1,8 +1,8 @@
 -- The table as the protocol reads it, and that a sound one keeps what the protocol asks of a table.
+use Rattle.std.specs.Prelude.{Option, Some, None}
 use Prim.Native.Nat.{ℕ, ◌*◌, ◌+◌, ◌<◌, ◌^◌, ◌≤◌}
 use mathlib.Core.Bool.{Bool, ◌||◌, cond, false, not, true}
 use mathlib.Core.Logic.{⊎_elim}
-use mathlib.Core.Option.{Option, none, some}
 use mathlib.Core.Path.{◌≡◌, ◌∙◌, ap, refl, sym}
 use native.Mathlib.Nat.{le_trans}
 use native.Mathlib.Omega.{arith}
@@ -15,13 +15,10 @@ use Rattle.laws.proofs.Numbers.{below_at, below_of}
 use Rattle.laws.proofs.Searches.{first_says}
 use Rattle.laws.proofs.Tests.{le_or_lt, same_test}
 use Rattle.sets.specs.Sets.{lowest_of, member_of, next_above_of, subset_of}
-use Rattle.sets.specs.declared.Found.{Found}
-use Rattle.sets.specs.declared.Found.TheVariants.{Nobody, Task}
+use Rattle.numbers.specs.declared.TaskNo.{TaskNo}
 use Rattle.sets.proofs.Ends.{lowest_nobody, lowest_says, next_nobody, next_says}
 use Rattle.sets.proofs.Members.{below_power, member_below, member_none, no_members, subset_at, subset_of_lem}
 use Rattle.table.specs.Tables.{is_move, mask_of, move_of, ready_of}
-use Rattle.table.specs.declared.Move.{Move}
-use Rattle.table.specs.declared.Move.TheVariants.{Nowhere, To}
 use Rattle.table.specs.declared.Table.{Table}
 use Rattle.soundness.specs.Sound.{sound_table}
 use Rattle.soundness.proofs.Rules.{Leads, Rules, below_by, move_leads, sound_rules}
@@ -31,13 +28,13 @@ use Rattle.protocol.specs.Plans.{Plan}
 use Rattle.protocol.proofs.Cases.{clash}
 use Rattle.protocol.proofs.Invariant.{NoneFits, PlanRight}
 
-abbrev pub found_task : Found → Option ℕ
-found_task Nobody = none
-found_task (Task t) = some t.0
+abbrev pub found_task : Option TaskNo → Option ℕ
+found_task None = None
+found_task (Some t) = Some t.0
 
-abbrev pub number_of : Found → ℕ
-number_of Nobody = 0
-number_of (Task t) = t.0
+abbrev pub number_of : Option TaskNo → ℕ
+number_of None = 0
+number_of (Some t) = t.0
 
 -- every task of the mask is offered
 abbrev pub covered_by : ℕ → (ℕ → Bool) → Bool
@@ -45,7 +42,7 @@ covered_by mask offers = all_below 16 (λ (t : ℕ). not (member_of mask t) || o
 
 -- the first of n vectors that passes
 abbrev pub first_of : ℕ → (ℕ → Bool) → Option ℕ
-first_of n passes = cond (ltb (first_from 0 n passes) n) (some (first_from 0 n passes)) none
+first_of n passes = cond (ltb (first_from 0 n passes) n) (Some (first_from 0 n passes)) None
 
 abbrev pub plan_of : Table → Plan
 plan_of T = record {
@@ -127,15 +124,15 @@ module _ (T : Table) (R : Rules T) (z : Sized T) where
   leads : (t x g : ℕ) → ready_of T.moves t x g ≡ true → Leads T t x g (moved x (move_of T.moves t x g))
   leads t x g r = turn (move_of T.moves t x g) refl r
     where
-      turn : (m : Move) → move_of T.moves t x g ≡ m → is_move m ≡ true → Leads T t x g (moved x m)
-      turn Nowhere e h = clash (sym h)
-      turn (To y) e h = move_leads T R t x g y e
+      turn : (m : Option ℕ) → move_of T.moves t x g ≡ m → is_move m ≡ true → Leads T t x g (moved x m)
+      turn None e h = clash (sym h)
+      turn (Some y) e h = move_leads T R t x g y e
 
   -- the next higher task of a vector
-  next_some : (mask b c : ℕ) (f : Found) → next_above_of mask b ≡ f → found_task f ≡ some c
+  next_some : (mask b c : ℕ) (f : Option TaskNo) → next_above_of mask b ≡ f → found_task f ≡ Some c
       → (member_of mask c ≡ true) × (b < c) × ((t : ℕ) → member_of mask t ≡ true → b < t → c ≤ t)
-  next_some mask b c Nobody e h = clash (cc)
-  next_some mask b c (Task u) e h =
+  next_some mask b c None e h = clash (cc)
+  next_some mask b c (Some u) e h =
       let q : u.0 ≡ c = cc in
       let n = next_says mask b u e in (
         rw (← q) n.member,
@@ -146,27 +143,27 @@ module _ (T : Table) (R : Rules T) (z : Sized T) where
             (le_or_lt c t),
       )
 
-  next_none : (g v b : ℕ) (f : Found) → next_above_of (mask_of T.masks g v) b ≡ f → found_task f ≡ none
+  next_none : (g v b : ℕ) (f : Option TaskNo) → next_above_of (mask_of T.masks g v) b ≡ f → found_task f ≡ None
       → (t : ℕ) → member_of (mask_of T.masks g v) t ≡ true → t ≤ b
-  next_none g v b (Task u) e h t m = clash (cc)
-  next_none g v b Nobody e h t m = ⊎_elim
+  next_none g v b (Some u) e h t m = clash (cc)
+  next_none g v b None e h t m = ⊎_elim
       (λ (k : t ≤ b). k)
       (λ (k : b < t). clash (sym m ∙ next_nobody (mask_of T.masks g v) b e t k
       (let p = (present_of g v t m).task in omega (arith, R.tasks))))
       (le_or_lt t b)
 
   -- the vector that a search finds, and that it finds one
-  first_below : (n v : ℕ) (passes : ℕ → Bool) → first_of n passes ≡ some v → v < n
+  first_below : (n v : ℕ) (passes : ℕ → Bool) → first_of n passes ≡ Some v → v < n
   first_below n v passes e = turn (ltb (first_from 0 n passes) n) refl e
     where
-      turn : (b : Bool) → ltb (first_from 0 n passes) n ≡ b → cond b (some (first_from 0 n passes)) none ≡ some v → v < n
+      turn : (b : Bool) → ltb (first_from 0 n passes) n ≡ b → cond b (Some (first_from 0 n passes)) None ≡ Some v → v < n
       turn true h q = let p : first_from 0 n passes ≡ v = cc in let l = ltb-true (first_from 0 n passes) n h in omega arith
       turn false h q = clash (cc)
 
-  first_none : (n v : ℕ) (passes : ℕ → Bool) → first_of n passes ≡ none → v < n → passes v ≡ true → ⊥
+  first_none : (n v : ℕ) (passes : ℕ → Bool) → first_of n passes ≡ None → v < n → passes v ≡ true → ⊥
   first_none n v passes e l p = turn (ltb (first_from 0 n passes) n) refl e
     where
-      turn : (b : Bool) → ltb (first_from 0 n passes) n ≡ b → ◌≡◌ {A = Option ℕ} (cond b (some (first_from 0 n passes)) none) none → ⊥
+      turn : (b : Bool) → ltb (first_from 0 n passes) n ≡ b → ◌≡◌ {A = Option ℕ} (cond b (Some (first_from 0 n passes)) None) None → ⊥
       turn true h q = clash (cc)
       turn false h q =
           let k = ltb-false (first_from 0 n passes) n h in
@@ -180,17 +177,17 @@ module _ (T : Table) (R : Rules T) (z : Sized T) where
       turn t true e = h t e
       turn t false e = refl
 
-  no_fit : (g : ℕ) (offers : ℕ → Bool) → (plan_of T).fitting g offers ≡ none → NoneFits (plan_of T) offers g
+  no_fit : (g : ℕ) (offers : ℕ → Bool) → (plan_of T).fitting g offers ≡ None → NoneFits (plan_of T) offers g
   no_fit g offers e v b m h =
       first_none (get_or T.vectors g 0) v (λ v. covered_by (mask_of T.masks g v) offers) e
       (present_of g v b m).vector (covered_of (mask_of T.masks g v) offers h)
 
-  lowest_in : (g v : ℕ) → v < get_or T.vectors g 0 → (f : Found) → lowest_of (mask_of T.masks g v) ≡ f
+  lowest_in : (g v : ℕ) → v < get_or T.vectors g 0 → (f : Option TaskNo) → lowest_of (mask_of T.masks g v) ≡ f
       → (member_of (mask_of T.masks g v) (number_of f) ≡ true)
       × ((t : ℕ) → member_of (mask_of T.masks g v) t ≡ true → number_of f ≤ t)
-  lowest_in g v h Nobody e = absurd (R.mask g v (vector_gate g v h).0 h
+  lowest_in g v h None e = absurd (R.mask g v (vector_gate g v h).0 h
       (no_members 16 (mask_of T.masks g v) (small_of g v) (lowest_nobody (mask_of T.masks g v) e)))
-  lowest_in g v h (Task u) e =
+  lowest_in g v h (Some u) e =
       let n = lowest_says (mask_of T.masks g v) u e in (
         n.member,
         λ t m. ⊎_elim

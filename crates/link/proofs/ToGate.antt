@@ -7,7 +7,7 @@ use native.Mathlib.Omega.{arith}
 use lib.Dec.{leb, ltb}
 use lib.ListN.{get_or, length}
 use borrow.Author.Tests.{eqb-true, leb-true, lt-ltb, ne_eqb}
-use Rattle.laws.proofs.Tests.{and_left, and_right}
+use Rattle.std.proofs.lemmas.Bool.{and_parts}
 use Rattle.sets.specs.Sets.{member_of, with_of}
 use Rattle.table.specs.Tables.{mask_of}
 use Rattle.table.specs.declared.Table.{Table}
@@ -49,8 +49,8 @@ up_says : (present : Bool) (g : ℕ) (c : Channel3) → up_sound present g c ≡
     → (c.count ≤ 3) × (up_fits g c.first ≡ true)
 up_says present g c h n =
     let first : cond (ltb 0 c.count) (up_fits g c.first) (is_ready c.first) ≡ true =
-    and_left _ _ (and_right (leb c.count (room present 3)) _ h) in (
-      most present (leb-true c.count (room present 3) (and_left (leb c.count (room present 3)) _ h)),
+    (and_parts _ _ ((and_parts (leb c.count (room present 3)) _ h).1)).0 in (
+      most present (leb-true c.count (room present 3) ((and_parts (leb c.count (room present 3)) _ h).0)),
       rw (lt-ltb 0 c.count (omega arith)) at first,
     )
   where

@@ -9,7 +9,7 @@ use lib.Dec.{eqb, ltb}
 use lib.ListN.{length, length-set}
 use lib.Seq.{get_or-set_other}
 use borrow.Author.Tests.{eq-eqb, eqb-true, ltb-true, ne_eqb}
-use Rattle.laws.proofs.Tests.{and_left}
+use Rattle.std.proofs.lemmas.Bool.{and_parts}
 use Rattle.sets.specs.Sets.{member_of}
 use Rattle.table.specs.Tables.{ready_of}
 use Rattle.table.specs.declared.Table.{Table}
@@ -114,7 +114,7 @@ module _ (T : Table) (q : Lawful T) (s : State) (log : List ℕ) (R : StateRules
         → Made T s log (settled_at_task s (down_popped s g b) log b (at_task T.moves T.gates b T.masks (task_of s b) m))
     unfolding at_task
     down_message Ready f e = clash (sym f)
-    down_message (Lock r) f e = down_lock r (eqb-true r.gate.0 g (and_left (eqb r.gate.0 g) (names_of T b r) f)) e
+    down_message (Lock r) f e = down_lock r (eqb-true r.gate.0 g ((and_parts (eqb r.gate.0 g) (names_of T b r) f).0)) e
     down_message (Commit h) f e = clash (sym f)
     down_message (Abort h) f e = clash (sym f)
 
@@ -204,9 +204,9 @@ module _ (T : Table) (q : Lawful T) (s : State) (log : List ℕ) (R : StateRules
         → Made T s log (settled_at_task s (across_popped s a b) log b (at_task T.moves T.gates b T.masks (task_of s b) m))
     unfolding at_task
     across_message Ready f e = clash (sym f)
-    across_message (Lock r) f e = across_lock r (ltb-true a b (and_left (ltb a b) (names_of T b r) f)) e
-    across_message (Commit h) f e = across_result true h.0 (ltb-true b a (and_left (ltb b a) (ltb h.0 T.gates) f)) e
-    across_message (Abort h) f e = across_result false h.0 (ltb-true b a (and_left (ltb b a) (ltb h.0 T.gates) f)) e
+    across_message (Lock r) f e = across_lock r (ltb-true a b ((and_parts (ltb a b) (names_of T b r) f).0)) e
+    across_message (Commit h) f e = across_result true h.0 (ltb-true b a ((and_parts (ltb b a) (ltb h.0 T.gates) f).0)) e
+    across_message (Abort h) f e = across_result false h.0 (ltb-true b a ((and_parts (ltb b a) (ltb h.0 T.gates) f).0)) e
 
     pub made_to_task : (across.count ≡ 0 → ⊥) → Made T s log (delivered_at_task T.moves T.masks T.gates s log b (pop_of s (ToTask (record { 0 = a }) (record { 0 = b }))))
     unfolding delivered_at_task

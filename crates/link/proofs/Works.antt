@@ -1,4 +1,5 @@
 -- The steps of work at a task are the protocol's: Free, an entry, a LOCK passed on, a move with its announcement, a result sent.
+use Rattle.std.specs.Prelude.{Some}
 use Prim.Native.Nat.{ℕ, ◌<◌, ◌≤◌}
 use mathlib.Core.Bool.{Bool, ◌&&◌, cond, false, true}
 use mathlib.Core.List.{List, [], ◌++◌, ◌∷◌}
@@ -7,10 +8,9 @@ use native.Mathlib.Omega.{arith}
 use lib.Dec.{ltb}
 use lib.ListN.{length, length-set}
 use borrow.Author.Tests.{lt-ltb}
-use Rattle.laws.proofs.Tests.{and-true}
+use Rattle.std.proofs.lemmas.Bool.{and_from}
 use Rattle.sets.specs.Sets.{member_of}
 use Rattle.table.specs.Tables.{mask_of, ready_of}
-use Rattle.table.specs.declared.Move.TheVariants.{To}
 use Rattle.table.specs.declared.Table.{Table}
 use Rattle.channels.specs.Channels.{empty1, empty3, put1, put3}
 use Rattle.channels.specs.declared.Channel1.{Channel1}
@@ -134,11 +134,11 @@ module _ (G : ℕ → Gate) (log : List Request) (b : ℕ) (S : ℕ → Task) wh
   module _ (T : Table) (q : Lawful T) (hb : b < 16) where
     -- b moves to y, is Free and announces itself
     pub moved_shows : (y : ℕ) (w : Work) (x : Line) → ShowsHere w x → ((g : ℕ) → length (with_ready (x.up b g)) ≤ 3)
-        → ShowsHere (moved_to T.moves T.gates b (To y) w) (step.moved (plan_of T) (freed x b) b y)
+        → ShowsHere (moved_to T.moves T.gates b (Some y) w) (step.moved (plan_of T) (freed x b) b y)
     unfolding announced
     moved_shows y = shows_all G log b S
         (λ w x. ((g : ℕ) → length (with_ready (x.up b g)) ≤ 3)
-        → ShowsHere (moved_to T.moves T.gates b (To y) w) (step.moved (plan_of T) (freed x b) b y))
+        → ShowsHere (moved_to T.moves T.gates b (Some y) w) (step.moved (plan_of T) (freed x b) b y))
         (λ p n E z l small.
         let s = allowed_shows G log b S p n E z l in
         let room : (g : ℕ) → length (with_ready (up_list p g)) ≤ 3 = λ g.
@@ -194,7 +194,7 @@ module _ (G : ℕ → Gate) (log : List Request) (b : ℕ) (S : ℕ → Task) wh
           let up_is : messages3 d ≡ X.up b g = sym (own_up G log b S (allowed p n E) X g s) in
           let lower_empty : (y : ℕ) → member_of mask y ≡ true → y < b → across_list p y ≡ [] = λ y e lt.
           sym (own_across G log b S (allowed p n E) X y s) ∙ j.lower b y lt
-          ∙ rw (below_undecided (plan_of T) X h j g v b true et eb y (and-true _ _ e (lt-ltb y b lt))) in
+          ∙ rw (below_undecided (plan_of T) X h j g v b true et eb y (and_from _ _ e (lt-ltb y b lt))) in
           let room : d.count < 3 = room3 d (rw (up_is ∙ (j.pair b g).up_is, et) (ready_small (h.ready_last b g))) in
           let t = send mask m p n E z.sized.across b (omega arith) lower_empty in
           let lg : g < length p.up = omega (arith, z.sized.up) in

@@ -5,7 +5,7 @@ use mathlib.Core.List.{List, [], ◌∷◌, ◌++◌}
 use mathlib.Core.Path.{◌≡◌, refl}
 use lib.ListN.{get_or}
 use borrow.Author.Tests.{lt-ltb}
-use Rattle.laws.proofs.Tests.{and_left, and_right, and-true}
+use Rattle.std.proofs.lemmas.Bool.{and_from, and_parts}
 use Rattle.laws.proofs.Numbers.{below_of}
 use Rattle.table.specs.Tables.{ready_of}
 use Rattle.table.specs.declared.Table.{Table}
@@ -16,7 +16,7 @@ module _ (T : Table) where
       → ((t : ℕ) → takes_part T g v t ≡ true → ready_of T.moves t (at t) g ≡ true) → enabled T at g v ≡ true
   unfolding enabled
   enabled_of at g v l ready =
-      and-true _ _ (lt-ltb v (get_or T.vectors g 0) l) (below_of 16 _ (λ t _. turn t (takes_part T g v t) refl))
+      and_from _ _ (lt-ltb v (get_or T.vectors g 0) l) (below_of 16 _ (λ t _. turn t (takes_part T g v t) refl))
     where
       turn : (t : ℕ) (c : Bool) → takes_part T g v t ≡ c → (not c || ready_of T.moves t (at t) g) ≡ true
       turn t true e = ready t e
@@ -34,4 +34,4 @@ module _ (T : Table) where
   legal_more at (x ∷ l) e h k =
       let now : Bool = enabled T at x.gate x.vector in
       let later : Bool = legal T (fired T at x.gate x.vector) l in
-      rw (and_left now later h) (legal_more (fired T at x.gate x.vector) l e (and_right now later h) k)
+      rw ((and_parts now later h).0) (legal_more (fired T at x.gate x.vector) l e ((and_parts now later h).1) k)

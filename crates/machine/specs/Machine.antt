@@ -1,10 +1,8 @@
 -- "The simple machine": it knows no message.
-use Rattle.std.specs.Prelude.{ℕ, Bool, true, cond, ◌&&◌, ◌||◌, not, List, [], ◌∷◌, ltb, get_or}
+use Rattle.std.specs.Prelude.{ℕ, Bool, true, cond, ◌&&◌, ◌||◌, not, List, [], ◌∷◌, ltb, get_or, Option, Some, None}
 use Rattle.laws.specs.Below.{all_below}
 use Rattle.sets.specs.Sets.{member_of}
 use Rattle.table.specs.Tables.{move_of, ready_of, mask_of}
-use Rattle.table.specs.declared.Move.{Move}
-use Rattle.table.specs.declared.Move.TheVariants.{Nowhere, To}
 use Rattle.table.specs.declared.Table.{Table}
 
 -- an entry of the log
@@ -13,9 +11,9 @@ pub record Entry : Type 0 where
   pub vector : ℕ
 
 -- where a move leads from state x
-abbrev pub moved : ℕ → Move → ℕ
-moved x Nowhere = x
-moved x (To y) = y
+abbrev pub moved : ℕ → Option ℕ → ℕ
+moved x None = x
+moved x (Some y) = y
 
 -- "It holds one state per task": `at` has the state of each.
 module _ (T : Table) where

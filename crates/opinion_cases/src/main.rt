@@ -12,6 +12,7 @@ use state::State;
 use std::io;
 use std::io::Read;
 use table::Table;
+use text::Sheet;
 
 // The most cases that are run.
 const CASES: usize = 1000000;
@@ -34,36 +35,25 @@ const DESK_LOG: usize = 20000;
 
 fn main(rt: HostRuntime) -> io::Result<()> {
     let mut input = rt.stdin();
-    let mut cases: usize = 0;
-    while cases < CASES {
-        if !one(&rt, &mut input, cases)? {
-            return ended(&rt, cases);
+    for number in 0..CASES {
+        if !one(&rt, &mut input, number)? {
+            return line(&rt, b"", number, b" cases\n");
         }
-        cases += 1;
     }
     Ok(())
 }
 
-fn ended(rt: &impl Print, cases: usize) -> io::Result<()> {
-    let mut text = [0u8; 64];
-    let end = text::put_decimal(&mut text, 0, cases);
-    let end = text::put_word(&mut text, end, b" cases\n");
-    shown::write(rt, &text, end)
-}
-
 // Runs the next case. False where there is none, or where a file or a log is longer than is taken.
 fn one(rt: &impl Print, input: &mut impl Read, number: usize) -> io::Result<bool> {
-    let mut head = [0u8; HEAD];
-    if stream::fill(input, &mut head) < HEAD {
+    let mut head = [[0u8; 4]; 3];
+    if stream::fill(input, head.as_flattened_mut()) < HEAD {
         return Ok(false);
     }
-    let table = reads::four(&head) as usize;
-    let schedule = reads::four(&head[4..]) as usize;
-    let room = reads::four(&head[8..]) as usize;
-    if (FILE < table) | (FILE < schedule) | (LOG < room) {
+    let [table, schedule, room] = head.map(|bytes| u32::from_le_bytes(bytes) as usize);
+    if FILE < table || FILE < schedule || LOG < room {
         return Ok(false);
     }
-    headed(rt, number)?;
+    line(rt, b"case ", number, b"\n")?;
     both(rt, input, table, schedule, room)?;
     Ok(true)
 }
@@ -92,30 +82,36 @@ fn filled(input: &mut impl Read, buffer: &mut [u8], size: usize) -> usize
     stream::fill(input, &mut buffer[..n])
 }
 
-fn headed(rt: &impl Print, number: usize) -> io::Result<()> {
+// A line with a number in it.
+fn line(rt: &impl Print, before: &[u8], number: usize, behind: &[u8]) -> io::Result<()> {
     let mut text = [0u8; 64];
-    let end = text::put_field(&mut text, 0, b"case ", number);
-    let end = text::put_byte(&mut text, end, 10);
-    shown::write(rt, &text, end)
+    let mut sheet = Sheet {
+        bytes: &mut text,
+        at: 0,
+    };
+    sheet.put_field(before, number);
+    sheet.put_word(behind);
+    shown::write(rt, &sheet)
 }
 
 // What program desk prints.
-fn desk<'a>(rt: &impl Print, file: &'a [u8], schedule: &'a [u8]) -> io::Result<()> {
+fn desk(rt: &impl Print, file: &[u8], schedule: &[u8]) -> io::Result<()> {
     let mut log = [0u8; DESK_LOG];
     let mut text = [0u8; TEXT];
     let end = printed::print(file, schedule, &mut log, &mut text);
-    shown::write(rt, &text, end)
+    let sheet = Sheet {
+        bytes: &mut text,
+        at: end,
+    };
+    shown::write(rt, &sheet)
 }
 
 // The second run, where both files are accepted.
-fn judge<'a>(rt: &impl Print, file: &'a [u8], schedule: &'a [u8], room: usize) -> io::Result<()> {
+fn judge(rt: &impl Print, file: &[u8], schedule: &[u8], room: usize) -> io::Result<()> {
     let loaded = reader::read(file);
     let listed = schedule::read(schedule);
-    let answer = loaded.answer;
-    let other = listed.answer;
-    if answers::is_done(answer) & answers::is_done(other) {
-        let table = loaded.table;
-        return again(rt, table, schedule, listed.count, room);
+    if loaded.answer.is_ok() && listed.answer.is_ok() {
+        again(rt, loaded.table, schedule, listed.count, room)?;
     }
     Ok(())
 }
@@ -130,57 +126,41 @@ fn again(
     let mut log = [UNWRITTEN; LOG];
     let mut text = [0u8; TEXT];
     let n = text::within(&log, room);
-    let end = seen(table, schedule, count, &mut log[..n], &mut text);
-    shown::write(rt, &text, end)
+    let mut sheet = Sheet {
+        bytes: &mut text,
+        at: 0,
+    };
+    seen(table, schedule, count, &mut log[..n], &mut sheet);
+    shown::write(rt, &sheet)
 }
 
 // The run, and the line after it.
-fn seen<'a>(
-    table: Table,
-    schedule: &'a [u8],
-    count: usize,
-    log: &'a mut [u8],
-    text: &'a mut [u8],
-) -> usize {
+fn seen(table: Table, schedule: &[u8], count: usize, log: &mut [u8], sheet: &mut Sheet) {
     let started = fresh::fresh(table);
-    let s = started.state;
-    let end = text::put_word(text, 0, b"answers ");
-    let ran = delivered(table, s, log, text, end, schedule, count);
-    let s = ran.state;
-    let end = shown::log(text, ran.end, log);
-    let end = shown::tasks(text, end, table.tasks, s);
-    let end = shown::gates(text, end, table.gates, s);
-    shown::channels(text, end, s)
+    sheet.put_word(b"answers ");
+    let s = delivered(table, started.state, log, sheet, schedule, count);
+    shown::log(sheet, log);
+    shown::parties(sheet, table.tasks, table.gates, &s);
+    shown::channels(sheet, &s);
 }
 
-// The line after a run, and where its text ends.
-#[derive(Clone, Copy)]
-struct Ran {
-    state: State,
-    end: usize,
-}
-
-// All deliveries of a schedule, each on the state and log the last one left, with a digit for each answer.
-fn delivered<'a>(
+// The line after all deliveries of a schedule, each on the state and log that the last one left. A
+// digit is typed for each answer.
+fn delivered(
     table: Table,
-    s: State,
-    log: &'a mut [u8],
-    text: &'a mut [u8],
-    at: usize,
-    schedule: &'a [u8],
+    started: State,
+    log: &mut [u8],
+    sheet: &mut Sheet,
+    schedule: &[u8],
     count: usize,
-) -> Ran {
-    let mut s = s;
-    let mut end = at;
-    let mut i = 0;
-    while i < count {
+) -> State {
+    let mut s = started;
+    for i in 0..count {
         let d = schedule::delivery_at(schedule, i);
         let r = delivery::deliver(table, s, log, d.from, d.to);
-        let answer = r.answer;
-        end = shown::digit(text, end, answers::number(answer));
+        shown::digit(sheet, answers::number(r.answer));
         s = r.state;
-        i += 1;
     }
-    end = text::put_byte(text, end, 10);
-    Ran { state: s, end }
+    sheet.put_byte(b'\n');
+    s
 }

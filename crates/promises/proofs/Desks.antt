@@ -1,5 +1,6 @@
 -- None of the wrong desks that the paper names keeps the promise of a delivery, and every desk that keeps it keeps the law of
 -- the line.
+use Rattle.std.specs.Prelude.{Ok}
 use Prim.Native.Nat.{ℕ}
 use mathlib.Core.Bool.{true≢false}
 use mathlib.Core.List.{List, [], ◌∷◌}
@@ -7,7 +8,6 @@ use mathlib.Core.Path.{◌≡◌, refl, sym, ap, subst, ◌∙◌}
 use native.Mathlib.Omega.{arith}
 use lib.ListN.{get_or}
 use Rattle.answers.specs.Answers.{is_done}
-use Rattle.answers.specs.declared.Answer.TheVariants.{Done}
 use Rattle.table.specs.declared.Table.{Table}
 use Rattle.reader.specs.Reader.{read_of}
 use Rattle.schedule.specs.declared.Delivery.{Delivery}
@@ -86,7 +86,7 @@ module _ (desk : Desk) (keeps : Keeps desk) where
       ∙ same_line T (delivered T o.state o.log d.from d.to) deliveries
 
   -- so the count of its log is backed by entries, which are a legal run
-  pub law_kept : (file log : List ℕ) → (read_of file).answer ≡ Done → (deliveries : List Delivery)
+  pub law_kept : (file log : List ℕ) → (read_of file).answer ≡ Ok tt → (deliveries : List Delivery)
       → Law (read_of file).table log (line_by desk (read_of file).table log deliveries).state
       (line_by desk (read_of file).table log deliveries).log
   law_kept file log accepted deliveries =

@@ -1,4 +1,5 @@
 -- What the definitions say of some deliveries of the paper's worked run.
+use Rattle.std.specs.Prelude.{Some}
 use Prim.Native.Nat.{ℕ}
 use mathlib.Core.Bool.{true, false}
 use mathlib.Core.List.{List, [], ◌∷◌}
@@ -23,7 +24,6 @@ use Rattle.state.specs.declared.Link.TheVariants.{ToGate}
 use Rattle.tasks.specs.Tasks.{announced, sent_below, handled, list_handled, at_task}
 use Rattle.gates.specs.Gates.{searched, at_gate}
 use Rattle.delivery.specs.Delivery.{Outcome, written, way_of, delivered_at_gate, delivered_at_task, between, sound_for, delivered}
-use Rattle.delivery.specs.declared.Way.TheVariants.{Along}
 use Rattle.fresh.specs.Fresh.{fresh_state, fresh}
 use Rattle.line.specs.Runs.{run, run_from}
 use Rattle.cases.specs.TableE.{table_e, schedule}
@@ -51,8 +51,8 @@ pub record Worked : Type 0 where
   pub first_done : is_done (next 0 0 16).answer ≡ true
   pub other_refused : is_done (next 0 16 17).answer ≡ false
   -- the second, 1-16, makes gate 0 send a LOCK to task 0, where popping its message sends nothing
-  pub second_way : way_of (endpoint_of table_of_e.tasks table_of_e.gates 1) (endpoint_of table_of_e.tasks table_of_e.gates 16) ≡ Along second
-  pub second_popped : (down_of (gate_of (pop_of (after 1).state second).state 0) 0).count ≡ 0
+  pub second_way : way_of (endpoint_of table_of_e.tasks table_of_e.gates 1) (endpoint_of table_of_e.tasks table_of_e.gates 16) ≡ Some second
+  pub second_popped : (down_of (gate_of (pop_of (after 1).state second).after 0) 0).count ≡ 0
   pub second_sends : (down_of (gate_of (next 1 1 16).state 0) 0).count ≡ 1
   -- the eighth, 1-2, writes an entry of gate 1
   pub eighth_before : get_or (after 7).log 0 0 ≡ 9

@@ -1,7 +1,6 @@
 -- Desks in general, and the wrong ones that the paper names under "What must be shown of the promises".
-use Rattle.std.specs.Prelude.{ℕ, false, List, [], ◌∷◌, ◌≡◌}
-use Rattle.answers.specs.Answers.{is_done}
-use Rattle.answers.specs.declared.Answer.{Answer}
+use Rattle.std.specs.Prelude.{ℕ, false, List, [], ◌∷◌, ◌≡◌, Some}
+use Rattle.answers.specs.Answers.{is_done, Answer}
 use Rattle.numbers.specs.Endpoints.{endpoint_of}
 use Rattle.table.specs.declared.Table.{Table}
 use Rattle.schedule.specs.declared.Delivery.{Delivery}
@@ -9,7 +8,6 @@ use Rattle.state.specs.States.{task_of, pop_of}
 use Rattle.state.specs.declared.Link.{Link}
 use Rattle.state.specs.declared.State.{State}
 use Rattle.delivery.specs.Delivery.{Outcome, given_back, way_of}
-use Rattle.delivery.specs.declared.Way.TheVariants.{Along}
 use Rattle.line.specs.Runs.{line_begun, run_from}
 use Rattle.promises.specs.Interface.{Delivers}
 
@@ -47,9 +45,9 @@ module _ (desk : Desk) where
   -- "one that delivers the first message properly and only pops the rest": already the second of a line is only popped
   abbrev pub PopsTheRest : Type 0
   PopsTheRest = (T : Table) (log : List ℕ) (first next : Delivery) (link : Link)
-      → way_of (endpoint_of T.tasks T.gates next.from) (endpoint_of T.tasks T.gates next.to) ≡ Along link
+      → way_of (endpoint_of T.tasks T.gates next.from) (endpoint_of T.tasks T.gates next.to) ≡ Some link
       → (desk T (run_from T log (first ∷ [])).state (run_from T log (first ∷ [])).log next.from next.to).state
-      ≡ (pop_of (run_from T log (first ∷ [])).state link).state
+      ≡ (pop_of (run_from T log (first ∷ [])).state link).after
 
   -- "A log count not backed by entries": the count may rise, and no byte is ever written
   abbrev pub WritesNothing : Type 0

@@ -1,9 +1,9 @@
 -- A delivery at a gate keeps the invariant and is not excluded.
+use Rattle.std.specs.Prelude.{Option, None, Some}
 use Prim.Native.Nat.{ℕ}
 use mathlib.Core.Bool.{Bool, true}
 use mathlib.Core.List.{List, [], ◌∷◌}
 use mathlib.Core.Logic.{◌≢◌}
-use mathlib.Core.Option.{Option, none, some}
 use mathlib.Core.Path.{◌≡◌, refl, sym, ◌∙◌}
 use Rattle.channels.specs.declared.Message.{Message}
 use Rattle.channels.specs.declared.Message.TheVariants.{Ready}
@@ -42,8 +42,8 @@ module _ (P : Plan) (W : PlanRight P) where
     search_ok = go (s.deal g) refl
       where
         found : (o : Option ℕ) → P.fitting g (s.offers g) ≡ o → h.token g ≡ home → Invariant P (dealt_if P s g o)
-        found none e et = rested (λ _. W.fitting_none g (s.offers g) e)
-        found (some v) e et = let b = P.lowest g v in let ib = W.lowest_in g v (s.offers g) e in let low = W.lowest_low g v (s.offers g) e in record {
+        found None e et = rested (λ _. W.fitting_none g (s.offers g) e)
+        found (Some v) e et = let b = P.lowest g v in let ib = W.lowest_in g v (s.offers g) e in let low = W.lowest_low g v (s.offers g) e in record {
           ghost = token_to h g (sent v b);
           links = deal_links P s h j g v b et ib low;
           meaning = deal_meaning P s h j g v b et ib low m;

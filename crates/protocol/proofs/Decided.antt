@@ -1,13 +1,13 @@
 -- An idle task u with the token in hand ends the negotiation: its result k goes to each lower task and to the gate.
+use Rattle.std.specs.Prelude.{None, Some}
 use Prim.Native.Nat.{ℕ, ◌<◌}
 use mathlib.Core.Bool.{Bool, true, false, cond, ◌&&◌}
 use mathlib.Core.List.{[], ◌∷◌, ◌++◌}
-use mathlib.Core.Option.{none, some}
 use mathlib.Core.Path.{◌≡◌, refl, ◌∙◌}
 use native.Mathlib.Omega.{arith}
 use lib.Dec.{eqb}
 use borrow.Author.Tests.{ltb-true, le-ltb}
-use Rattle.laws.proofs.Tests.{and_left, and_right}
+use Rattle.std.proofs.lemmas.Bool.{and_parts}
 use Rattle.protocol.specs.Plans.{Plan, below, changed, changed_to}
 use Rattle.protocol.specs.Lines.{Line, result}
 use Rattle.protocol.specs.Steps.{result_sent}
@@ -38,7 +38,7 @@ module _ (P : Plan) (s : Line) (h : Ghost) (j : Links P s h) (g v u : ℕ) (k : 
   task' : (t : ℕ) (c : Bool) → below P g v u t ≡ c → TaskLinks P t (s.mode t) (cond c (decided g v u k) (h.phase t))
   task' t true e = record {
     mode_is = (j.task t).mode_is ∙ rw (below_undecided t e);
-    phase_right = (and_left _ _ e, rw et at (j.gate g).token_right, ltb-true _ _ (and_right (P.holds g v t) _ e));
+    phase_right = ((and_parts _ _ e).0, rw et at (j.gate g).token_right, ltb-true _ _ ((and_parts (P.holds g v t) _ e).1));
   }
   task' t false e = j.task t
 
@@ -48,7 +48,7 @@ module _ (P : Plan) (s : Line) (h : Ghost) (j : Links P s h) (g v u : ℕ) (k : 
       off_it : (eqb a u && below P g v u b) ≡ false
       off_it = elim (eq_case a u) [ same p q ↦ simp (q, le-ltb b u (omega arith), and_no) | diff p q ↦ rw q ]
 
-      nobody : below P g v u a ≡ true → h.passed_to a ≡ none
+      nobody : below P g v u a ≡ true → h.passed_to a ≡ None
       nobody e = simp (below_undecided a e, eqb_same, et) at (j.pair a g).passed_is
 
       go : (c : Bool) → below P g v u a ≡ c
@@ -68,7 +68,7 @@ module _ (P : Plan) (s : Line) (h : Ghost) (j : Links P s h) (g v u : ℕ) (k : 
   pair' t x = elim (eq_case x g) [ same p e ↦ rw (e, p) (here (below P g v u t) refl) | diff p e ↦ rw e (other (below P g v u t) refl e) ]
     where
       up_here : cond (eqb t u) (s.up u g ++ result k g ∷ []) (s.up t g)
-          ≡ up_messages g (cond (eqb t u) (some k) none) (cond (eqb t u) (h.ready_last u g) (h.ready_before t g)) (cond (eqb t u) false (h.ready_last t g))
+          ≡ up_messages g (cond (eqb t u) (Some k) None) (cond (eqb t u) (h.ready_last u g) (h.ready_before t g)) (cond (eqb t u) false (h.ready_last t g))
       up_here = elim (eq_case t u) [ same q f ↦ rw f (simp ((j.pair u g).up_is, et)) | diff q f ↦ rw f (simp ((j.pair t g).up_is, et)) ]
 
       here : (c : Bool) → below P g v u t ≡ c

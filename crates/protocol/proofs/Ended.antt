@@ -1,8 +1,8 @@
 -- A result at a gate: the gate is dealing, the result was its token, and the token comes home.
+use Rattle.std.specs.Prelude.{None, Some}
 use Prim.Native.Nat.{ℕ}
 use mathlib.Core.Bool.{Bool, true, false, cond}
 use mathlib.Core.List.{List, ◌∷◌}
-use mathlib.Core.Option.{none, some}
 use mathlib.Core.Path.{◌≡◌, refl, sym, ◌∙◌}
 use lib.Dec.{eqb}
 use Rattle.channels.specs.declared.Message.{Message}
@@ -17,11 +17,11 @@ use Rattle.protocol.proofs.Reading.{UpFront, a_ready, a_result, up_front, result
 use Rattle.protocol.proofs.TokenMoves.{token_to}
 
 module _ (P : Plan) (s : Line) (h : Ghost) (j : Links P s h) (t g : ℕ) (k : Bool) (rest : List Message) (em : s.up t g ≡ result k g ∷ rest) where
-  pub result_behind : (result_by t (h.token g) ≡ some k) × (rest ≡ ready_if (h.ready_last t g))
+  pub result_behind : (result_by t (h.token g) ≡ Some k) × (rest ≡ ready_if (h.ready_last t g))
   result_behind = go k (up_front g (result_by t (h.token g)) (h.ready_before t g) (h.ready_last t g) (result k g) rest (sym (j.pair t g).up_is ∙ em))
     where
       go : (k : Bool) → UpFront g (result_by t (h.token g)) (h.ready_last t g) (result k g) rest
-          → (result_by t (h.token g) ≡ some k) × (rest ≡ ready_if (h.ready_last t g))
+          → (result_by t (h.token g) ≡ Some k) × (rest ≡ ready_if (h.ready_last t g))
       go true (a_ready m e) = clash (cc)
       go false (a_ready m e) = clash (cc)
       go c (a_result d m r e) = (r ∙ rw (result_same c d g g m).0, e)
@@ -29,7 +29,7 @@ module _ (P : Plan) (s : Line) (h : Ghost) (j : Links P s h) (t g : ℕ) (k : Bo
   pub dealt_vector : (v : ℕ) × (s.deal g ≡ Dealing v)
   dealt_vector = go (h.token g) refl result_behind.0
     where
-      go : (x : Token) → h.token g ≡ x → result_by t x ≡ some k → (v : ℕ) × (s.deal g ≡ Dealing v)
+      go : (x : Token) → h.token g ≡ x → result_by t x ≡ Some k → (v : ℕ) × (s.deal g ≡ Dealing v)
       go home e r = clash (cc)
       go (sent v b) e r = clash (cc)
       go (passed v a b) e r = clash (cc)
@@ -79,7 +79,7 @@ module _ (P : Plan) (s : Line) (h : Ghost) (j : Links P s h) (t g v : ℕ) (k : 
           → Covered P y g (offers_after P g v c (s.offers g) t y) (h.ready_last y g) home (h.phase y)
       here y q c f (by_ready a) = by_ready a
       here y q c f (by_commit a) = by_commit a
-      here y (same p e) c f (by_offer a b) = clash (let z : some k ≡ none = rw e at b in cc)
+      here y (same p e) c f (by_offer a b) = clash (let z : Some k ≡ None = rw e at b in cc)
       here y (same p e) true f (by_token a) = clash (cc)
       here y (same p e) false f (by_token a) = clash (let z : false ≡ true = simp (f, e, and_no) at a in sym z)
       here y (diff p e) true f (by_offer a b) = by_offer (simp e a) refl

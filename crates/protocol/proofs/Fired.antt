@@ -6,7 +6,7 @@ use mathlib.Core.Path.{◌≡◌, refl, sym, ◌∙◌}
 use native.Mathlib.Omega.{arith}
 use lib.Dec.{eqb, ltb}
 use borrow.Author.Tests.{lt-ltb}
-use Rattle.laws.proofs.Tests.{and-true}
+use Rattle.std.proofs.lemmas.Bool.{and_from}
 use Rattle.protocol.specs.Plans.{Plan, below, changed}
 use Rattle.protocol.specs.Lines.{Line}
 use Rattle.protocol.specs.Steps.{result_sent, entered, moved}
@@ -51,7 +51,7 @@ module _ (P : Plan) (s : Line) (h : Ghost) (j : Links P s h) (m : Meaning P s h)
   enabled t i = elim (eq_case t u) [
     | same p e ↦ (rw p ru, m.replayed_is t ∙ rw (p, eu))
     | diff p e ↦ (let l : t < u = (let w = high t i in omega arith) in
-        let z = undecided' t (and-true _ _ i (lt-ltb t u l)) in (rw z at (m.held_ready t), m.replayed_is t ∙ rw z))
+        let z = undecided' t (and_from _ _ i (lt-ltb t u l)) in (rw z at (m.held_ready t), m.replayed_is t ∙ rw z))
   ]
 
   pub fire_links : Links P (fired_line P s g v u) (fired_ghost P s h g v u)
@@ -78,7 +78,7 @@ module _ (P : Plan) (s : Line) (h : Ghost) (j : Links P s h) (m : Meaning P s h)
   }
     where
       lower : (t : ℕ) → t ≢ u → P.holds g v t ≡ true → below P g v u t ≡ true
-      lower t n i = and-true _ _ i (lt-ltb t u (let w = high t i in omega arith))
+      lower t n i = and_from _ _ i (lt-ltb t u (let w = high t i in omega arith))
 
       replay' : (t : ℕ) → t ≢ u → (i : Bool) → P.holds g v t ≡ i
           → cond i (P.target t (h.replayed t) g) (h.replayed t) ≡ replay_of P t (s.at t) (cond (i && ltb t u) (decided g v u true) (h.phase t))

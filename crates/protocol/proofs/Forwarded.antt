@@ -1,8 +1,8 @@
 -- An idle task b, ready at gate g, is held and passes the LOCK in hand on to the vector's next higher task c.
+use Rattle.std.specs.Prelude.{Some}
 use Prim.Native.Nat.{ℕ, ◌<◌, ◌≤◌}
 use mathlib.Core.Bool.{Bool, true, false, ◌&&◌}
 use mathlib.Core.Logic.{◌≢◌}
-use mathlib.Core.Option.{some}
 use mathlib.Core.Path.{◌≡◌, refl, sym, ◌∙◌}
 use native.Mathlib.Omega.{arith}
 use lib.Dec.{eqb, ltb}
@@ -21,7 +21,7 @@ abbrev pub forwarded_ghost : Ghost → ℕ → ℕ → ℕ → ℕ → Ghost
 forwarded_ghost h g v b c = record {
   token = changed h.token g (passed v b c);
   phase = changed h.phase b (undecided g v);
-  passed_to = changed h.passed_to b (some c);
+  passed_to = changed h.passed_to b (Some c);
   ready_before = h.ready_before;
   ready_last = h.ready_last;
   replayed = h.replayed;
@@ -58,7 +58,7 @@ module _ (P : Plan) (s : Line) (h : Ghost) (j : Links P s h) (g v b c : ℕ) (et
       q = j.pair t g
 
       here : EqCase t b
-          → PairBy P s h t g (passed v b c) (changed h.phase b (undecided g v) t) (changed h.passed_to b (some c) t)
+          → PairBy P s h t g (passed v b c) (changed h.phase b (undecided g v) t) (changed h.passed_to b (Some c) t)
       here (same p e) = rw e (record {
         up_is = rw et at q.up_is;
         down_is = rw et at q.down_is;
@@ -75,7 +75,7 @@ module _ (P : Plan) (s : Line) (h : Ghost) (j : Links P s h) (g v b c : ℕ) (et
       })
 
       other : eqb x g ≡ false → EqCase t b
-          → PairBy P s h t x (h.token x) (changed h.phase b (undecided g v) t) (changed h.passed_to b (some c) t)
+          → PairBy P s h t x (h.token x) (changed h.phase b (undecided g v) t) (changed h.passed_to b (Some c) t)
       other f (diff p e) = rw e (j.pair t x)
       other f (same p e) = let r = j.pair t x in let z : h.phase t ≡ idle = cc in rw e (record {
         up_is = r.up_is;

@@ -1,8 +1,8 @@
 -- An idle task handles the lock request in its hand: refuses, forwards or fires.
+use Rattle.std.specs.Prelude.{Option, None, Some}
 use Prim.Native.Nat.{ℕ}
 use mathlib.Core.Bool.{Bool, true, false, cond}
 use mathlib.Core.Logic.{◌≢◌}
-use mathlib.Core.Option.{Option, none, some}
 use mathlib.Core.Path.{◌≡◌, refl}
 use Rattle.protocol.specs.Plans.{Plan, below, changed}
 use Rattle.protocol.specs.Lines.{Line, request}
@@ -43,7 +43,7 @@ module _ (P : Plan) (W : PlanRight P) (s : Line) (h : Ghost) (j : Links P s h) (
       go false e = e
 
   accept_ok : P.ready b (s.at b) g ≡ true → (o : Option ℕ) → P.next_above g v b ≡ o → Step P s (accepted P s g v b o) h b
-  accept_ok e (some c) f = let n = W.next_some g v b c f in record {
+  accept_ok e (Some c) f = let n = W.next_some g v b c f in record {
     ghost = forwarded_ghost h g v b c;
     links = forward_links P s h j g v b c et eb n.0 n.1 n.2;
     meaning = forward_meaning P s h j g v b c et eb n.0 n.1 n.2 m e;
@@ -53,7 +53,7 @@ module _ (P : Plan) (W : PlanRight P) (s : Line) (h : Ghost) (j : Links P s h) (
     waiting_is = refl;
     offers_is = refl;
   }
-  accept_ok e none f = record {
+  accept_ok e None f = record {
     ghost = fired_ghost P s h g v b;
     links = fire_links P s h j m g v b et eb e (W.next_none g v b f);
     meaning = fire_meaning P s h j m g v b et eb e (W.next_none g v b f);

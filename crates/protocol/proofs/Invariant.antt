@@ -1,9 +1,9 @@
 -- The invariant of the protocol: LINKS, MEANING and REST. docs/LAW.md says why each line is there.
+use Rattle.std.specs.Prelude.{Option, None, Some}
 use Prim.Native.Nat.{ℕ, ◌<◌, ◌≤◌}
 use mathlib.Core.Bool.{Bool, true}
 use mathlib.Core.List.{List, []}
 use mathlib.Core.Logic.{◌≢◌}
-use mathlib.Core.Option.{Option, none, some}
 use mathlib.Core.Path.{◌≡◌}
 use Rattle.channels.specs.declared.Request.{Request}
 use Rattle.channels.specs.declared.Message.{Message}
@@ -28,13 +28,13 @@ pub record Ghost : Type 0 where
 pub record PlanRight (P : Plan) : Type 0 where
   pub task_there : (g v t : ℕ) → P.holds g v t ≡ true → t < P.tasks
   pub gate_there : (g v t : ℕ) → P.holds g v t ≡ true → g < P.gates
-  pub next_some : (g v b c : ℕ) → P.next_above g v b ≡ some c
+  pub next_some : (g v b c : ℕ) → P.next_above g v b ≡ Some c
       → (P.holds g v c ≡ true) × (b < c) × ((t : ℕ) → P.holds g v t ≡ true → b < t → c ≤ t)
-  pub next_none : (g v b : ℕ) → P.next_above g v b ≡ none → (t : ℕ) → P.holds g v t ≡ true → t ≤ b
-  pub fitting_none : (g : ℕ) (offers : ℕ → Bool) → P.fitting g offers ≡ none
+  pub next_none : (g v b : ℕ) → P.next_above g v b ≡ None → (t : ℕ) → P.holds g v t ≡ true → t ≤ b
+  pub fitting_none : (g : ℕ) (offers : ℕ → Bool) → P.fitting g offers ≡ None
       → (v b : ℕ) → P.holds g v b ≡ true → ((t : ℕ) → P.holds g v t ≡ true → offers t ≡ true) → ⊥
-  pub lowest_in : (g v : ℕ) (offers : ℕ → Bool) → P.fitting g offers ≡ some v → P.holds g v (P.lowest g v) ≡ true
-  pub lowest_low : (g v : ℕ) (offers : ℕ → Bool) → P.fitting g offers ≡ some v
+  pub lowest_in : (g v : ℕ) (offers : ℕ → Bool) → P.fitting g offers ≡ Some v → P.holds g v (P.lowest g v) ≡ true
+  pub lowest_low : (g v : ℕ) (offers : ℕ → Bool) → P.fitting g offers ≡ Some v
       → (t : ℕ) → P.holds g v t ≡ true → P.lowest g v ≤ t
 
 module _ (P : Plan) where
@@ -74,7 +74,7 @@ module _ (P : Plan) where
   -- no offer is lost: one of four reasons why gate g will come to know that t is ready there
   pub data Covered (t g : ℕ) (offer last : Bool) (token : Token) (phase : Phase) : Type 0 where
     by_ready : last ≡ true → Covered t g offer last token phase
-    by_offer : offer ≡ true → result_by t token ≡ none → Covered t g offer last token phase
+    by_offer : offer ≡ true → result_by t token ≡ None → Covered t g offer last token phase
     by_token : covers P t g token ≡ true → Covered t g offer last token phase
     by_commit : commits phase ≡ true → Covered t g offer last token phase
 

@@ -1,7 +1,7 @@
 -- A task moves and announces itself: after it the newest message to each gate that it is ready at is a READY.
+use Rattle.std.specs.Prelude.{Option, None, Some}
 use Prim.Native.Nat.{ℕ}
 use mathlib.Core.Bool.{Bool, true, false, cond, ◌&&◌}
-use mathlib.Core.Option.{Option, none, some}
 use mathlib.Core.Path.{◌≡◌, refl}
 use lib.Dec.{eqb}
 use Rattle.protocol.specs.Plans.{Plan}
@@ -21,16 +21,16 @@ announced_ghost h t ready = record {
 }
 
 with_ready_lem : (g : ℕ) (r : Option Bool) (before last : Bool) → with_ready (up_messages g r before last) ≡ up_messages g r before true
-with_ready_lem g none before true = refl
-with_ready_lem g none before false = refl
-with_ready_lem g (some true) true true = refl
-with_ready_lem g (some true) true false = refl
-with_ready_lem g (some true) false true = refl
-with_ready_lem g (some true) false false = refl
-with_ready_lem g (some false) true true = refl
-with_ready_lem g (some false) true false = refl
-with_ready_lem g (some false) false true = refl
-with_ready_lem g (some false) false false = refl
+with_ready_lem g None before true = refl
+with_ready_lem g None before false = refl
+with_ready_lem g (Some true) true true = refl
+with_ready_lem g (Some true) true false = refl
+with_ready_lem g (Some true) false true = refl
+with_ready_lem g (Some true) false false = refl
+with_ready_lem g (Some false) true true = refl
+with_ready_lem g (Some false) true false = refl
+with_ready_lem g (Some false) false true = refl
+with_ready_lem g (Some false) false false = refl
 
 pub announce_links : (P : Plan) (s : Line) (h : Ghost) (t : ℕ) (ready : ℕ → Bool) → Links P s h
     → Links P (announced s t ready) (announced_ghost h t ready)

@@ -1,12 +1,12 @@
 -- Where no message travels, no task is held and no vector has all its tasks ready.
+use Rattle.std.specs.Prelude.{Option, None, Some}
 use Prim.Native.Nat.{ℕ, suc, zero, ◌+◌, ◌<◌, ◌≤◌}
 use mathlib.Core.Bool.{Bool, true, false, cond}
 use mathlib.Core.List.{[], ◌∷◌}
-use mathlib.Core.Option.{Option, none, some}
 use mathlib.Core.Path.{◌≡◌, refl, sym, ◌∙◌}
 use native.Mathlib.Omega.{arith}
 use borrow.Author.Tests.{ltb-true}
-use Rattle.laws.proofs.Tests.{and_right}
+use Rattle.std.proofs.lemmas.Bool.{and_parts}
 use Rattle.state.specs.declared.Mode.TheVariants.{Free}
 use Rattle.protocol.specs.Plans.{Plan, below}
 use Rattle.protocol.specs.Lines.{Line, lock, result}
@@ -21,13 +21,13 @@ pub record Quiet (s : Line) : Type 0 where
   pub no_down : (g t : ℕ) → s.down g t ≡ []
   pub no_across : (a b : ℕ) → s.across a b ≡ []
 
-result_there : (g : ℕ) (k before last : Bool) → [] ≡ up_messages g (some k) before last → ⊥
+result_there : (g : ℕ) (k before last : Bool) → [] ≡ up_messages g (Some k) before last → ⊥
 result_there g k true last e = clash (cc)
 result_there g k false last e = clash (cc)
 
 ready_there : (g : ℕ) (r : Option Bool) (before : Bool) → [] ≡ up_messages g r before true → ⊥
-ready_there g none before e = clash (cc)
-ready_there g (some k) before e = result_there g k before true e
+ready_there g None before e = clash (cc)
+ready_there g (Some k) before e = result_there g k before true e
 
 module _ (P : Plan) (W : PlanRight P) (s : Line) (i : Invariant P s) (q : Quiet s) where
   abbrev h : Ghost
@@ -43,15 +43,15 @@ module _ (P : Plan) (W : PlanRight P) (s : Line) (i : Invariant P s) (q : Quiet 
 
   -- who is held with no decision is below a request that waits, at a task that is held too
   none_undecided : (g : ℕ) (x : Token) → h.token g ≡ x → (t v : ℕ) → ((b : ℕ) → t < b → b < P.tasks → h.phase b ≡ idle)
-      → undecided_by P g t x ≡ some v → ⊥
+      → undecided_by P g t x ≡ Some v → ⊥
   none_undecided g home e t v f u = clash (cc)
   none_undecided g (sent w b) e t v f u = clash (cc)
   none_undecided g (passed w a b) e t v f u = no_passed g w a b e
   none_undecided g (queued w b) e t v f u = go (below P g w b t) refl u
     where
-      go : (c : Bool) → below P g w b t ≡ c → cond c (some w) none ≡ some v → ⊥
+      go : (c : Bool) → below P g w b t ≡ c → cond c (Some w) None ≡ Some v → ⊥
       go false d x = clash (cc)
-      go true d x = no_queued g w b e (f b (ltb-true t b (and_right (P.holds g w t) _ d)) (W.task_there g w b (rw e at (i.links.gate g).token_right)))
+      go true d x = no_queued g w b e (f b (ltb-true t b ((and_parts (P.holds g w t) _ d).1)) (W.task_there g w b (rw e at (i.links.gate g).token_right)))
   none_undecided g (in_hand w b) e t v f u = i.none_in_hand g w b e
   none_undecided g (returned w c k) e t v f u = clash (cc)
 

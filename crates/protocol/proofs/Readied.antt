@@ -1,8 +1,8 @@
 -- A READY at a gate is taken from its channel, and its task joins the offers.
+use Rattle.std.specs.Prelude.{Option, None, Some}
 use Prim.Native.Nat.{ℕ}
 use mathlib.Core.Bool.{Bool, true, false}
 use mathlib.Core.List.{List, ◌∷◌}
-use mathlib.Core.Option.{Option, none, some}
 use mathlib.Core.Path.{◌≡◌, refl, sym, ◌∙◌}
 use Rattle.channels.specs.declared.Message.{Message}
 use Rattle.channels.specs.declared.Message.TheVariants.{Ready}
@@ -70,8 +70,8 @@ module _ (P : Plan) (s : Line) (h : Ghost) (j : Links P s h) (t g : ℕ) (rest :
       -- with no result on the way the READY becomes the offer
       here : (r : Option Bool) → result_by t (h.token g) ≡ r → Covered P t g (s.offers g t) (h.ready_last t g) (h.token g) (h.phase t)
           → Covered P t g true (last_behind r (h.ready_last t g)) (h.token g) (h.phase t)
-      here none e c = by_offer refl e
-      here (some k) e (by_ready a) = by_ready a
-      here (some k) e (by_offer a b) = by_offer refl b
-      here (some k) e (by_token a) = by_token a
-      here (some k) e (by_commit a) = by_commit a
+      here None e c = by_offer refl e
+      here (Some k) e (by_ready a) = by_ready a
+      here (Some k) e (by_offer a b) = by_offer refl b
+      here (Some k) e (by_token a) = by_token a
+      here (Some k) e (by_commit a) = by_commit a

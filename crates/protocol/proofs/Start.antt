@@ -1,6 +1,6 @@
 -- The fresh line keeps the invariant: every token at home, every task idle, and nothing offered.
+use Rattle.std.specs.Prelude.{None}
 use mathlib.Core.Bool.{false}
-use mathlib.Core.Option.{none}
 use mathlib.Core.Path.{refl, sym}
 use Rattle.protocol.specs.Plans.{Plan}
 use Rattle.protocol.specs.Lines.{fresh}
@@ -15,7 +15,7 @@ fresh_ok P = record {
   ghost = record {
     token = λ g. home;
     phase = λ t. idle;
-    passed_to = λ t. none;
+    passed_to = λ t. None;
     ready_before = λ t g. false;
     ready_last = λ t g. P.ready t (P.start t) g;
     replayed = P.start;

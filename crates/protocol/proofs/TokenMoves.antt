@@ -1,7 +1,7 @@
 -- A step that moves one gate's token and changes nothing that the tasks' states have to do with keeps the meaning.
+use Rattle.std.specs.Prelude.{Option, None}
 use Prim.Native.Nat.{ℕ}
 use mathlib.Core.Bool.{Bool, true}
-use mathlib.Core.Option.{Option, none}
 use mathlib.Core.Path.{◌≡◌}
 use Rattle.protocol.specs.Plans.{Plan, changed}
 use Rattle.protocol.specs.Lines.{Line}
@@ -21,7 +21,7 @@ token_to h g new = record {
 }
 
 pub covered_moved : (P : Plan) (t g x : ℕ) (offer last : Bool) (token : ℕ → Token) (new : Token) (p : Phase)
-    → (result_by t (token g) ≡ none → result_by t new ≡ none) → (covers P t g (token g) ≡ true → covers P t g new ≡ true)
+    → (result_by t (token g) ≡ None → result_by t new ≡ None) → (covers P t g (token g) ≡ true → covers P t g new ≡ true)
     → Covered P t x offer last (token x) p → Covered P t x offer last (changed token g new x) p
 covered_moved P t g x offer last token new p results covering c =
     elim (eq_case x g) [ same q e ↦ rw (e, q) (go (rw q at c)) | diff q e ↦ rw e c ]
@@ -34,7 +34,7 @@ covered_moved P t g x offer last token new p results covering c =
 
 module _ (P : Plan) (s s' : Line) (h : Ghost) (m : Meaning P s h) (g : ℕ) (new : Token) (passed_to : ℕ → Option ℕ)
     (at_is : s'.at ≡ s.at) (offers_is : s'.offers ≡ s.offers) (log_is : s'.log ≡ s.log)
-    (results : (t : ℕ) → result_by t (h.token g) ≡ none → result_by t new ≡ none)
+    (results : (t : ℕ) → result_by t (h.token g) ≡ None → result_by t new ≡ None)
     (covering : (t : ℕ) → covers P t g (h.token g) ≡ true → covers P t g new ≡ true) where
   pub token_meaning : Meaning P s' (record {
     token = changed h.token g new;

@@ -1,6 +1,5 @@
 -- "What a delivery does", over any plan: the steps composed.
-use Rattle.std.specs.Prelude.{ℕ, Bool, true, false, cond, List, [], ◌∷◌, ◌++◌}
-use Rattle.std.proofs.Math.Option.{Option, none, some}
+use Rattle.std.specs.Prelude.{ℕ, Bool, true, false, cond, List, [], ◌∷◌, ◌++◌, Option, None, Some}
 use Rattle.channels.specs.declared.Request.{Request}
 use Rattle.protocol.specs.Lines.{Line}
 use Rattle.protocol.specs.Plans.{Plan}
@@ -12,8 +11,8 @@ use Rattle.tasks.specs.Tasks.{is_free}
 module _ (P : Plan) where
   -- a Free task handles a lock request of gate g for vector v: forwards it, or decides
   abbrev pub accepted : Line → ℕ → ℕ → ℕ → Option ℕ → Line
-  accepted s g v b (some c) = forwarded s g v b c
-  accepted s g v b none = moved P (entered (result_sent P s g v b true) g v) b (P.target b (s.at b) g)
+  accepted s g v b (Some c) = forwarded s g v b c
+  accepted s g v b None = moved P (entered (result_sent P s g v b true) g v) b (P.target b (s.at b) g)
 
   abbrev pub handled_by : Line → ℕ → ℕ → ℕ → Bool → Line
   handled_by s g v b true = accepted s g v b (P.next_above g v b)
@@ -38,8 +37,8 @@ module _ (P : Plan) where
 
   -- "a gate that is Idle searches"
   abbrev pub dealt_if : Line → ℕ → Option ℕ → Line
-  dealt_if s g none = s
-  dealt_if s g (some v) = dealt P s g v (P.lowest g v)
+  dealt_if s g None = s
+  dealt_if s g (Some v) = dealt P s g v (P.lowest g v)
 
   abbrev pub searched_by : Line → ℕ → Deal → Line
   searched_by s g Idle = dealt_if s g (P.fitting g (s.offers g))

@@ -1,6 +1,5 @@
 -- What the rules read of a table, for any number of tasks, gates and vectors.
-use Rattle.std.specs.Prelude.{ℕ, Bool, cond, ◌&&◌, eqb, ltb}
-use Rattle.std.proofs.Math.Option.{Option}
+use Rattle.std.specs.Prelude.{ℕ, Bool, cond, ◌&&◌, eqb, ltb, Option}
 
 pub record Plan : Type 0 where
   pub tasks : ℕ

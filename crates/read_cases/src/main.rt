@@ -4,10 +4,8 @@
 // repeated and cut to its length. tools/make_read_cases.py writes the cases and the lines expected.
 #![tactic(auto)]
 
-ghost use Rattle.std.specs.Prelude.{◌≡◌, ◌≤◌, IfOk, length, take};
+ghost use Rattle.std.specs.Prelude.{◌<◌, ◌≤◌, IfSome, length};
 
-use reader::Loaded;
-use schedule::Schedule;
 use std::io;
 use table::Table;
 
@@ -15,8 +13,32 @@ const INPUT: usize = 262144;
 
 const ROOM: usize = 65536;
 
-// The bytes of a case besides its name and its unit.
-const HEAD: usize = 10;
+// What a file is read as.
+#[derive(Clone, Copy, Debug, PartialEq, Eq)]
+enum Kind {
+    Table,
+    Schedule,
+}
+
+impl TryFrom<u8> for Kind {
+    type Error = u8;
+
+    fn try_from(tag: u8) -> Result<Self, u8> {
+        match tag {
+            b'T' => Ok(Kind::Table),
+            b'S' => Ok(Kind::Schedule),
+            _ => Err(tag),
+        }
+    }
+}
+
+#[derive(Clone, Copy, Debug)]
+struct Case<'a> {
+    kind: Kind,
+    name: &'a [u8],
+    unit: &'a [u8],
+    size: usize,
+}
 
 fn main(rt: HostRuntime) -> io::Result<()> {
     let mut input = [0u8; INPUT];
@@ -25,133 +47,94 @@ fn main(rt: HostRuntime) -> io::Result<()> {
 }
 
 fn run(rt: &impl Print, input: &[u8]) -> io::Result<()> {
-    let mut at = 0;
+    let mut rest = input;
     let mut cases: u64 = 0;
-    while at < input.len() {
-        let size = one(rt, &input[at..])?;
-        if size == 0 {
-            return println!(rt; "malformed case at {at}");
-        }
-        at += size;
+    // Each program of cases has this loop: one for all would ask something of the closure that it calls.
+    while let Some((case, behind)) = case_of(rest) {
+        judge(rt, case)?;
+        rest = behind;
         cases += 1;
     }
-    println!(rt; "{cases} cases")
-}
-
-// Runs the case that `rest` begins with, and answers how many bytes it has, or 0 where it is malformed.
-fn one(rt: &impl Print, rest: &[u8]) -> io::Result<usize>
-    ensures { IfOk result (λ size. size ≤ length rest.now) }
-{
-    let unit = HEAD + reads::byte(rest, 1) as usize;
-    if rest.len() < unit {
-        return Ok(0);
-    }
-    let name = unit - 8;
-    let size = reads::four(&rest[name..]) as usize;
-    if ROOM < size {
-        return Ok(0);
-    }
-    let end = unit + reads::four(&rest[unit - 4..]) as usize;
-    if rest.len() < end {
-        return Ok(0);
-    }
-    if !is_case(rest[0], size, end - unit) {
-        return Ok(0);
-    }
-    rt.write_all(&rest[2..name])?;
-    judge(rt, rest[0], &rest[unit..end], size)?;
-    println!(rt; "")?;
-    Ok(end)
-}
-
-// Nothing repeated fills no file but the empty one.
-fn is_case(tag: u8, size: usize, unit: usize) -> bool {
-    ((tag == b'T') | (tag == b'S')) & ((size == 0) | (0 < unit))
-}
-
-// Fills the first `size` bytes of `file`.
-fn repeat(unit: &[u8], file: &mut [u8], size: usize)
-    requires { size ≤ length file.old }
-    ensures { (size ≤ length file.new) × (size ≡ length (take size file.new)) }
-{
-    let mut i = 0;
-    let mut j = 0;
-    while i < size {
-        file[i] = reads::byte(unit, j);
-        i += 1;
-        j += 1;
-        if j == unit.len() {
-            j = 0;
-        }
-    }
-}
-
-fn judge(rt: &impl Print, tag: u8, unit: &[u8], size: usize) -> io::Result<()>
-    requires { size ≤ 65536 }
-{
-    let mut file = [0u8; ROOM];
-    repeat(unit, &mut file, size);
-    let whole = &file[..size];
-    if tag == b'T' {
-        judge_table(rt, reader::read(whole))
+    if rest.is_empty() {
+        println!(rt; "{cases} cases")
     } else {
-        judge_schedule(rt, schedule::read(whole))
+        println!(rt; "malformed case at {}", input.len() - rest.len())
     }
 }
 
-fn judge_table(rt: &impl Print, loaded: Loaded) -> io::Result<()> {
-    let answer = loaded.answer;
-    let number = answers::number(answer);
-    judged(rt, number, loaded.place)?;
-    if number == 0 {
-        let table = loaded.table;
-        show(rt, " tasks ", table.tasks as usize)?;
-        show(rt, " gates ", table.gates as usize)?;
-        show(rt, " transitions ", transitions(&table.moves))?;
-        show(rt, " vectors ", vectors(&table.vectors))?;
+// The case that `rest` begins with, and what stands behind it. None where it is malformed.
+fn case_of(rest: &[u8]) -> Option<(Case<'_>, &[u8])>
+    ensures { IfSome result (λ p. (p.0.size ≤ 65536) × (length p.1.now < length rest.now)) }
+{
+    let (&[tag, name], rest) = rest.split_first_chunk::<2>()?;
+    let kind = Kind::try_from(tag).ok()?;
+    let (name, rest) = rest.split_at_checked(usize::from(name))?;
+    let (&size, rest) = rest.split_first_chunk::<4>()?;
+    let (&length, rest) = rest.split_first_chunk::<4>()?;
+    let size = u32::from_le_bytes(size) as usize;
+    let (unit, rest) = rest.split_at_checked(u32::from_le_bytes(length) as usize)?;
+    // Nothing repeated fills no file but the empty one.
+    if ROOM < size || (unit.is_empty() && size != 0) {
+        return None;
     }
-    Ok(())
+    Some((
+        Case {
+            kind,
+            name,
+            unit,
+            size,
+        },
+        rest,
+    ))
 }
 
-fn judge_schedule(rt: &impl Print, schedule: Schedule) -> io::Result<()> {
-    let answer = schedule.answer;
-    let number = answers::number(answer);
-    judged(rt, number, schedule.place)?;
-    if number == 0 {
-        show(rt, " deliveries ", schedule.count)?;
-    }
-    Ok(())
-}
-
-fn judged(rt: &impl Print, number: u8, place: usize) -> io::Result<()> {
-    show(rt, ": answer ", number as usize)?;
-    show(rt, " at ", place)
-}
-
-fn show(rt: &impl Print, what: &str, number: usize) -> io::Result<()> {
-    print!(rt; "{what}{number}")
-}
-
-// The cells that hold a transition.
-fn transitions(moves: &[u8]) -> usize {
-    let mut count = 0;
-    let mut i = 0;
-    while i < moves.len() {
-        if 0 < moves[i] {
-            count += 1;
+fn judge(rt: &impl Print, case: Case<'_>) -> io::Result<()>
+    requires { case.size ≤ 65536 }
+{
+    let mut room = [0u8; ROOM];
+    let file = &mut room[..case.size];
+    repeat(case.unit, file);
+    rt.write_all(case.name)?;
+    match case.kind {
+        Kind::Table => {
+            let loaded = reader::read(file);
+            let number = answers::number(loaded.answer);
+            print!(rt; ": answer {number} at {}", loaded.place)?;
+            if number == 0 {
+                counts(rt, loaded.table)?;
+            }
         }
-        i += 1;
+        Kind::Schedule => {
+            let schedule = schedule::read(file);
+            let number = answers::number(schedule.answer);
+            print!(rt; ": answer {number} at {}", schedule.place)?;
+            if number == 0 {
+                print!(rt; " deliveries {}", schedule.count)?;
+            }
+        }
     }
-    count
+    println!(rt; "")
+}
+
+// Fills the file with the unit, over and over.
+fn repeat(unit: &[u8], file: &mut [u8]) {
+    for (to, from) in file.iter_mut().zip(unit.iter().cycle()) {
+        *to = *from;
+    }
+}
+
+fn counts(rt: &impl Print, table: Table) -> io::Result<()> {
+    let tasks = table.tasks;
+    let gates = table.gates;
+    let transitions = table.moves.iter().filter(|to| **to != 0).count();
+    let vectors = vectors(&table.vectors);
+    print!(rt; " tasks {tasks} gates {gates} transitions {transitions} vectors {vectors}")
 }
 
 // The vectors of all gates together.
 fn vectors(counts: &[u8]) -> usize {
-    let mut sum = 0;
-    let mut i = 0;
-    while i < Table::GATES {
-        sum += reads::byte(counts, i) as usize;
-        i += 1;
-    }
-    sum
+    counts.iter().fold(
+        0,
+        |sum: usize, count| sum.saturating_add(usize::from(*count)),
+    )
 }

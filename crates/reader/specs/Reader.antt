@@ -1,13 +1,13 @@
 -- What comes back for a table file.
-use Rattle.std.specs.Prelude.{ℕ, cond, ◌||◌, List, eqb, ltb, length}
-use Rattle.answers.specs.Answers.{is_done}
-use Rattle.answers.specs.declared.Answer.{Answer}
-use Rattle.answers.specs.declared.Answer.TheVariants.{Done, Missing}
+use Rattle.std.specs.Prelude.{ℕ, cond, ◌||◌, List, eqb, ltb, length, Ok, Err}
+use Rattle.answers.specs.Answers.{is_done, Answer}
+use Rattle.answers.specs.declared.Refusal.TheVariants.{Missing}
 use Rattle.format.specs.Format.{kind_at, head_fault}
 use Rattle.format.specs.Walk.{walk}
 use Rattle.records.specs.Records.{record_at}
 use Rattle.table.specs.Tables.{empty_table}
-use Rattle.reader.specs.Rules.{Loading, kind_fault, field_fault, with_record, after_record}
+use Rattle.reader.specs.declared.Loading.{Loading}
+use Rattle.reader.specs.Rules.{kind_fault, field_fault, with_record, after_record}
 use Rattle.reader.specs.declared.Loaded.{Loaded}
 
 -- the first fault of the record at a place, after those before it
@@ -28,8 +28,8 @@ refused_of answer place = record { table = empty_table; answer = answer; place =
 unfoldable pub ended_of : ℕ → Loading → Loaded
 ended_of n l =
     cond (eqb l.progress.kind 0 || ltb l.progress.came l.table.tasks)
-    (refused_of Missing n)
-    (record { table = l.table; answer = Done; place = n })
+    (refused_of (Err Missing) n)
+    (record { table = l.table; answer = Ok tt; place = n })
 
 -- from the first byte, with the empty table, before any record has come
 abbrev pub read_of : List ℕ → Loaded

@@ -1,18 +1,14 @@
 -- "Checks on each record, in this order" and what an accepted record adds.
-use Rattle.std.specs.Prelude.{ℕ, ◌+◌, Bool, true, false, cond, ◌&&◌, ◌||◌, not, eqb, ltb, leb, get_or}
-use Rattle.answers.specs.declared.Answer.{Answer}
-use Rattle.answers.specs.declared.Answer.TheVariants.{Done, Kind, FieldRange, Order, Missing, TooMany}
+use Rattle.std.specs.Prelude.{ℕ, ◌+◌, Bool, true, false, cond, ◌&&◌, ◌||◌, not, eqb, ltb, leb, get_or, Ok, Err}
+use Rattle.answers.specs.Answers.{Answer}
+use Rattle.answers.specs.declared.Refusal.TheVariants.{Kind, FieldRange, Order, Missing, TooMany}
 use Rattle.records.specs.declared.Record.{Record}
 use Rattle.records.specs.declared.Record.TheVariants.{System, Task, Transition, Vector}
 use Rattle.sets.specs.Sets.{all_below_of}
 use Rattle.table.specs.Tables.{count_in, cell_of, new_below, with_counts, with_states, with_move, with_vector}
 use Rattle.table.specs.declared.Table.{Table}
 use Rattle.reader.specs.declared.Progress.{Progress}
-
--- the table so far, and what the order of the records asks of those that have come
-pub record Loading : Type 0 where
-  pub table : Table
-  pub progress : Progress
+use Rattle.reader.specs.declared.Loading.{Loading}
 
 -- "kind 1 to 4 and allowed here: the first is 1, no second 1, never a lower kind than before (2);
 -- kind above 2 only when all tasks have come (6)"
@@ -22,9 +18,9 @@ allowed_kind before k =
 
 unfoldable pub kind_fault : ℕ → Progress → ℕ → Answer
 kind_fault tasks p k =
-    cond (not (allowed_kind p.kind k)) Kind
-    (cond (ltb 2 k && ltb p.came tasks) Missing
-    Done)
+    cond (not (allowed_kind p.kind k)) (Err Kind)
+    (cond (ltb 2 k && ltb p.came tasks) (Err Missing)
+    (Ok tt))
 
 -- "every number lies below the count it belongs to (a start, from or to state below that task's states), the three
 -- counts lie in the bounds above, and a mask is neither 0 nor names an absent task"
@@ -54,10 +50,10 @@ in_order l (Vector g mask) = leb l.progress.gate.0 g.0 && new_below l.table.mask
 -- "field ranges left to right (4); ninth vector of a gate (7); order or a repeated mask (5)"
 unfoldable pub field_fault : Loading → Record → Answer
 field_fault l r =
-    cond (not (in_range l.table r)) FieldRange
-    (cond (is_ninth l.table r) TooMany
-    (cond (not (in_order l r)) Order
-    Done))
+    cond (not (in_range l.table r)) (Err FieldRange)
+    (cond (is_ninth l.table r) (Err TooMany)
+    (cond (not (in_order l r)) (Err Order)
+    (Ok tt)))
 
 -- what an accepted record adds to the table
 unfoldable pub with_record : Table → Record → Table

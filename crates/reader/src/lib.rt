@@ -1,29 +1,19 @@
 // Reading a table file: each record is checked in the paper's order, and the first fault ends the reading.
 #![tactic(auto)]
 
-ghost use Rattle.std.specs.Prelude.{◌≡◌};
-ghost use Rattle.reader.specs.Parts.{loading, none_came};
+ghost use Rattle.std.specs.Prelude.{◌≡◌, Err};
+ghost use Rattle.reader.specs.Parts.{none_came, loading_none, with_next};
 ghost use Rattle.reader.specs.Rules.{kind_fault, in_range, is_ninth, in_order, field_fault, with_record, after_record};
 ghost use Rattle.reader.specs.Reader.{fault_at, refused_of, ended_of, read_of};
 
-use answers::Answer;
+use answers::{Answer, Refusal};
 use numbers::GateNo;
 use records::Record;
 use table::Table;
 
-// What the order of the records asks of those that have come: the last one's kind (0 before the
-// first), how many tasks, the lowest cell left for a transition, and the last vector's gate.
-#[derive(Clone, Copy)]
-pub struct Progress {
-    pub kind: u16,
-    pub came: u16,
-    pub floor: usize,
-    pub gate: GateNo,
-}
-
 // What comes back: the table and where the reading ended, or the empty table and the refused
-// record's place.
-#[derive(Clone, Copy)]
+// record's place. No `Result`, since the paper says what comes back with a refusal too.
+#[derive(Clone, Copy, Debug, PartialEq, Eq)]
 pub struct Loaded {
     pub table: Table,
     pub answer: Answer,
@@ -33,200 +23,217 @@ pub struct Loaded {
 pub fn read(file: &[u8]) -> Loaded
     ensures { result ≡ read_of file.now }
 {
-    let mut table = Table::empty();
-    let mut progress = none_came();
-    let mut at: usize = 0;
+    let mut loading = Loading::begun();
+    let mut at = 0;
+    // No `for`: where the next record starts is known only when this one is read.
     while at < file.len() {
-        let fault = fault_at(file, at, table, progress);
-        if !answers::is_done(fault) {
-            return refused(fault, at);
+        if let Err(refusal) = loading.fault_at(file, at) {
+            return refused(refusal, at);
         }
-        let next = records::record_at(file, at);
-        table = with_record(table, next);
-        progress = after_record(progress, next);
-        at = at + format::size_at(file, at);
+        loading = loading.with_next(records::record_at(file, at));
+        at += format::size_at(file, at);
     }
-    ended(file.len(), table, progress)
+    loading.ended(file.len())
 }
 
-fn refused(answer: Answer, place: usize) -> Loaded
-    ensures { result ≡ refused_of answer place }
+// The schedule's reader has its like, which fills another struct.
+fn refused(refusal: Refusal, place: usize) -> Loaded
+    ensures { result ≡ refused_of (Err refusal) place }
 {
-    let table = Table::empty();
     Loaded {
-        table,
-        answer,
+        table: Table::empty(),
+        answer: Err(refusal),
         place,
     }
 }
 
-// No record is left: the system record and all tasks must have come.
-#[tactic(auto, unfolding(crate::specs::Reader::ended_of))]
-fn ended(length: usize, table: Table, progress: Progress) -> Loaded
-    ensures { result ≡ ended_of length (loading table progress) }
-{
-    if (progress.kind == 0) | (progress.came < table.tasks as u16) {
-        return refused(Answer::Missing, length);
-    }
-    Loaded {
-        table,
-        answer: Answer::Done,
-        place: length,
-    }
+// What the order of the records asks of those that have come: the last one's kind (0 before the
+// first), how many tasks, the lowest cell left for a transition, and the last vector's gate. The
+// kind is the file's own number, by which the paper orders records.
+#[derive(Clone, Copy, Debug, PartialEq, Eq)]
+pub struct Progress {
+    pub kind: u16,
+    pub came: u16,
+    pub floor: usize,
+    pub gate: GateNo,
 }
 
-// The first fault of the record at a place.
-#[tactic(auto, unfolding(crate::specs::Reader::fault_at))]
-fn fault_at(file: &[u8], at: usize, table: Table, progress: Progress) -> Answer
-    ensures { result ≡ fault_at file.now at (loading table progress) }
-{
-    let kind = format::kind_at(file, at);
-    let head = format::head_fault(file, at, kind_fault(table.tasks, progress, kind));
-    if answers::is_done(head) {
-        return field_fault(table, progress, records::record_at(file, at));
-    }
-    head
-}
-
-// Kind 1 to 4 and allowed here, then tasks not yet complete.
-#[tactic(auto, unfolding(crate::specs::Rules::kind_fault))]
-fn kind_fault(tasks: u8, progress: Progress, kind: u16) -> Answer
-    ensures { result ≡ kind_fault tasks progress kind }
-{
-    let before = progress.kind;
-    let first = (before == 0) & (kind == 1);
-    let later = (before != 0) & ((kind != 1) & (before <= kind));
-    if !(((1 <= kind) & (kind <= 4)) & (first | later)) {
-        return Answer::Kind;
-    }
-    if (2 < kind) & (progress.came < tasks as u16) {
-        return Answer::Missing;
-    }
-    Answer::Done
-}
-
-// The record's fields: their ranges, a ninth vector, the order or a repeated mask.
-#[tactic(auto, unfolding(crate::specs::Rules::field_fault))]
-fn field_fault(table: Table, progress: Progress, next: Record) -> Answer
-    ensures { result ≡ field_fault (loading table progress) next }
-{
-    if !in_range(table, next) {
-        return Answer::FieldRange;
-    }
-    if is_ninth(table, next) {
-        return Answer::TooMany;
-    }
-    if !in_order(table, progress, next) {
-        return Answer::Order;
-    }
-    Answer::Done
-}
-
-#[tactic(auto, unfolding(crate::specs::Rules::in_range))]
-fn in_range(table: Table, next: Record) -> bool
-    ensures { result ≡ in_range table next }
-{
-    match next {
-        Record::System(tasks, gates) => table::count_in(tasks) & table::count_in(gates),
-        Record::Task(task, states, start) => {
-            (task.0 < table.tasks) & (table::count_in(states) & (start < states))
-        }
-        Record::Transition(task, from, gate, to) => {
-            let states = reads::byte(&table.states, task.0 as usize);
-            (task.0 < table.tasks) & ((from < states) & ((gate.0 < table.gates) & (to < states)))
-        }
-        Record::Vector(gate, mask) => {
-            (gate.0 < table.gates) & ((mask != 0) & sets::all_below(mask, table.tasks))
+impl Progress {
+    // Before the first record.
+    fn none_came() -> Self
+        ensures { result ≡ none_came }
+    {
+        Progress {
+            kind: 0,
+            came: 0,
+            floor: 0,
+            gate: GateNo(0),
         }
     }
-}
 
-#[tactic(auto, unfolding(crate::specs::Rules::is_ninth))]
-fn is_ninth(table: Table, next: Record) -> bool
-    ensures { result ≡ is_ninth table next }
-{
-    match next {
-        Record::System(_, _) => false,
-        Record::Task(_, _, _) => false,
-        Record::Transition(_, _, _, _) => false,
-        Record::Vector(gate, _) => 8 <= reads::byte(&table.vectors, gate.0 as usize),
-    }
-}
-
-#[tactic(auto, unfolding(crate::specs::Rules::in_order))]
-fn in_order(table: Table, progress: Progress, next: Record) -> bool
-    ensures { result ≡ in_order (loading table progress) next }
-{
-    match next {
-        Record::System(_, _) => true,
-        Record::Task(task, _, _) => task.0 as u16 == progress.came,
-        Record::Transition(task, from, gate, _) => {
-            progress.floor <= table::cell(task, from, gate)
-        }
-        Record::Vector(gate, mask) => {
-            (progress.gate.0 <= gate.0) & table::new_below(&table.masks, gate, 8, mask)
-        }
-    }
-}
-
-#[tactic(auto, unfolding(crate::specs::Rules::with_record))]
-fn with_record(table: Table, next: Record) -> Table
-    ensures { result ≡ with_record table next }
-{
-    match next {
-        Record::System(tasks, gates) => table.with_counts(tasks, gates),
-        Record::Task(task, states, start) => table.with_states(task, states, start),
-        Record::Transition(task, from, gate, to) => table.with_move(task, from, gate, to),
-        Record::Vector(gate, mask) => table.with_vector(gate, mask),
-    }
-}
-
-// Before the first record.
-fn none_came() -> Progress
-    ensures { result ≡ none_came }
-{
-    Progress {
-        kind: 0,
-        came: 0,
-        floor: 0,
-        gate: GateNo(0),
-    }
-}
-
-#[tactic(auto, unfolding(crate::specs::Rules::after_record))]
-fn after_record(before: Progress, next: Record) -> Progress
-    ensures { result ≡ after_record before next }
-{
-    let came = before.came;
-    let floor = before.floor;
-    let gate = before.gate;
-    match next {
-        Record::System(_, _) => Progress {
-            kind: 1,
-            came,
-            floor,
-            gate,
-        },
-        Record::Task(task, _, _) => Progress {
-            kind: 2,
-            came: task.0 as u16 + 1,
-            floor,
-            gate,
-        },
-        Record::Transition(task, from, gate_no, _) => {
-            let cell = table::cell(task, from, gate_no);
-            Progress {
+    #[tactic(auto, unfolding(crate::specs::Rules::after_record))]
+    fn after_record(self, next: Record) -> Self
+        ensures { result ≡ after_record self next }
+    {
+        match next {
+            Record::System(_, _) => Progress { kind: 1, ..self },
+            Record::Task(task, _, _) => Progress {
+                kind: 2,
+                came: u16::from(task.0) + 1,
+                ..self
+            },
+            Record::Transition(task, from, gate, _) => Progress {
                 kind: 3,
-                came,
-                floor: cell + 1,
+                floor: table::cell(task, from, gate) + 1,
+                ..self
+            },
+            Record::Vector(gate, _) => Progress {
+                kind: 4,
                 gate,
+                ..self
+            },
+        }
+    }
+}
+
+// The table so far, and what the order of the records asks.
+#[derive(Clone, Copy, Debug, PartialEq, Eq)]
+pub struct Loading {
+    pub table: Table,
+    pub progress: Progress,
+}
+
+impl Loading {
+    fn begun() -> Self
+        ensures { result ≡ loading_none }
+    {
+        Loading {
+            table: Table::empty(),
+            progress: Progress::none_came(),
+        }
+    }
+
+    #[tactic(auto, unfolding(crate::specs::Rules::with_record))]
+    fn with_next(self, next: Record) -> Self
+        ensures { result ≡ with_next self next }
+    {
+        let table = self.table;
+        let table = match next {
+            Record::System(tasks, gates) => table.with_counts(tasks, gates),
+            Record::Task(task, states, start) => table.with_states(task, states, start),
+            Record::Transition(task, from, gate, to) => table.with_move(task, from, gate, to),
+            Record::Vector(gate, mask) => table.with_vector(gate, mask),
+        };
+        Loading {
+            table,
+            progress: self.progress.after_record(next),
+        }
+    }
+
+    // No record is left: the system record and all tasks must have come.
+    #[tactic(auto, unfolding(crate::specs::Reader::ended_of))]
+    fn ended(self, length: usize) -> Loaded
+        ensures { result ≡ ended_of length self }
+    {
+        if (self.progress.kind == 0) | (self.progress.came < u16::from(self.table.tasks)) {
+            return refused(Refusal::Missing, length);
+        }
+        Loaded {
+            table: self.table,
+            answer: Ok(()),
+            place: length,
+        }
+    }
+
+    // The first fault of the record at a place.
+    #[tactic(auto, unfolding(crate::specs::Reader::fault_at))]
+    fn fault_at(&self, file: &[u8], at: usize) -> Answer
+        ensures { result ≡ fault_at file.now at self.now }
+    {
+        let kind = format::kind_at(file, at);
+        format::head_fault(file, at, self.kind_fault(kind))?;
+        self.field_fault(records::record_at(file, at))
+    }
+
+    // Kind 1 to 4 and allowed here, then tasks not yet complete.
+    #[tactic(auto, unfolding(crate::specs::Rules::kind_fault))]
+    fn kind_fault(&self, kind: u16) -> Answer
+        ensures { result ≡ kind_fault self.now.table.tasks self.now.progress kind }
+    {
+        let before = self.progress.kind;
+        let first = (before == 0) & (kind == 1);
+        let later = (before != 0) & ((kind != 1) & (before <= kind));
+        if !((1..=4).contains(&kind) & (first | later)) {
+            return Err(Refusal::Kind);
+        }
+        if (2 < kind) & (self.progress.came < u16::from(self.table.tasks)) {
+            return Err(Refusal::Missing);
+        }
+        Ok(())
+    }
+
+    // The record's fields: their ranges, a ninth vector, the order or a repeated mask.
+    #[tactic(auto, unfolding(crate::specs::Rules::field_fault))]
+    fn field_fault(&self, next: Record) -> Answer
+        ensures { result ≡ field_fault self.now next }
+    {
+        if !self.in_range(next) {
+            return Err(Refusal::FieldRange);
+        }
+        if self.is_ninth(next) {
+            return Err(Refusal::TooMany);
+        }
+        if !self.in_order(next) {
+            return Err(Refusal::Order);
+        }
+        Ok(())
+    }
+
+    #[tactic(auto, unfolding(crate::specs::Rules::in_range))]
+    fn in_range(&self, next: Record) -> bool
+        ensures { result ≡ in_range self.now.table next }
+    {
+        match next {
+            Record::System(tasks, gates) => table::count_in(tasks) & table::count_in(gates),
+            Record::Task(task, states, start) => {
+                (task.0 < self.table.tasks) & (table::count_in(states) & (start < states))
+            }
+            Record::Transition(task, from, gate, to) => {
+                let states = reads::at(&self.table.states, task.0.into(), 0);
+                let there = (gate.0 < self.table.gates) & (to < states);
+                (task.0 < self.table.tasks) & ((from < states) & there)
+            }
+            Record::Vector(gate, mask) => {
+                let present = sets::all_below(mask, self.table.tasks);
+                (gate.0 < self.table.gates) & ((mask != 0) & present)
             }
         }
-        Record::Vector(gate_no, _) => Progress {
-            kind: 4,
-            came,
-            floor,
-            gate: gate_no,
-        },
+    }
+
+    #[tactic(auto, unfolding(crate::specs::Rules::is_ninth))]
+    fn is_ninth(&self, next: Record) -> bool
+        ensures { result ≡ is_ninth self.now.table next }
+    {
+        match next {
+            Record::Vector(gate, _) => 8 <= reads::at(&self.table.vectors, gate.0.into(), 0),
+            _ => false,
+        }
+    }
+
+    #[tactic(auto, unfolding(crate::specs::Rules::in_order))]
+    fn in_order(&self, next: Record) -> bool
+        ensures { result ≡ in_order self.now next }
+    {
+        match next {
+            Record::System(_, _) => true,
+            Record::Task(task, _, _) => u16::from(task.0) == self.progress.came,
+            Record::Transition(task, from, gate, _) => {
+                self.progress.floor <= table::cell(task, from, gate)
+            }
+            Record::Vector(gate, mask) => {
+                let new = table::new_below(&self.table.masks, gate, 8, mask);
+                (self.progress.gate <= gate) & new
+            }
+        }
     }
 }

@@ -1,27 +1,24 @@
-// Reads of lent lists of numbers that need no range: past the end stands 0.
+// Reads of lent lists that need no range: past the end stands a filler.
 #![tactic(auto)]
 
 ghost use Rattle.std.specs.Prelude.{◌≡◌, get_or};
 ghost use Rattle.reads.specs.Numbers.{four_of};
 
-pub fn byte(bytes: &[u8], i: usize) -> u8
-    ensures { result ≡ get_or bytes.now i 0 }
+pub fn at<T: Copy + Drop>(list: &[T], i: usize, filler: T) -> T
+    ensures { result ≡ get_or list.now i filler }
 {
-    if i < bytes.len() { bytes[i] } else { 0 }
+    list.get(i).copied().unwrap_or(filler)
 }
 
-pub fn half(list: &[u16], i: usize) -> u16
-    ensures { result ≡ get_or list.now i 0 }
-{
-    if i < list.len() { list[i] } else { 0 }
-}
-
-// The number in the first four bytes, the lowest first.
+// The number in the first four bytes, the lowest first; past the end stands 0. A must-fail edit speaks
+// of it.
 pub fn four(bytes: &[u8]) -> u32
     ensures { result ≡ four_of bytes.now }
 {
-    byte(bytes, 0) as u32
-        + byte(bytes, 1) as u32 * 256
-        + byte(bytes, 2) as u32 * 65536
-        + byte(bytes, 3) as u32 * 16777216
+    u32::from_le_bytes([
+        at(bytes, 0, 0),
+        at(bytes, 1, 0),
+        at(bytes, 2, 0),
+        at(bytes, 3, 0),
+    ])
 }

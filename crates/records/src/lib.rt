@@ -6,7 +6,7 @@ ghost use Rattle.records.specs.Records.{record_at};
 
 use numbers::{GateNo, TaskNo};
 
-#[derive(Clone, Copy)]
+#[derive(Clone, Copy, Debug, PartialEq, Eq)]
 pub enum Record {
     // tasks, gates
     System(u8, u8),
@@ -24,20 +24,15 @@ pub fn record_at(file: &[u8], at: usize) -> Record
     ensures { result ≡ record_at file.now at }
 {
     if at < file.len() {
-        let kind = format::kind_at(file, at);
-        let a = reads::byte(file, at + 4);
-        let b = reads::byte(file, at + 5);
-        let c = reads::byte(file, at + 6);
-        if kind == 1 {
-            return Record::System(a, b);
-        }
-        if kind == 2 {
-            return Record::Task(TaskNo(a), b, c);
-        }
-        if kind == 3 {
-            return Record::Transition(TaskNo(a), b, GateNo(c), reads::byte(file, at + 7));
-        }
-        return Record::Vector(GateNo(a), format::word_at(file, at + 5));
+        let a = reads::at(file, at + 4, 0);
+        let b = reads::at(file, at + 5, 0);
+        let c = reads::at(file, at + 6, 0);
+        return match format::kind_at(file, at) {
+            1 => Record::System(a, b),
+            2 => Record::Task(TaskNo(a), b, c),
+            3 => Record::Transition(TaskNo(a), b, GateNo(c), reads::at(file, at + 7, 0)),
+            _ => Record::Vector(GateNo(a), format::word_at(file, at + 5)),
+        };
     }
     Record::Vector(GateNo(0), 0)
 }

@@ -1,4 +1,5 @@
 -- What program desk prints is at most 200 bytes long, and 20 more for each byte of the log; and it is never empty.
+use Rattle.std.specs.Prelude.{Ok, Err}
 use Prim.Native.Nat.{ℕ, ◌+◌, ◌*◌, ◌/◌, ◌^◌, ◌<◌, ◌≤◌}
 use mathlib.Core.Bool.{Bool, true, false, cond}
 use mathlib.Core.List.{List, ◌++◌}
@@ -8,9 +9,8 @@ use native.Mathlib.Omega.{arith}
 use lib.ListN.{get_or, length, drop}
 use lib.Pow.{pow_mono}
 use borrow.Author.Tests.{eqb-true, lt-ltb, ltb-true}
-use Rattle.answers.specs.Answers.{number_of, is_done}
-use Rattle.answers.specs.declared.Answer.{Answer}
-use Rattle.answers.specs.declared.Answer.TheVariants.{Done, CutOff, Kind, BodyLength, FieldRange, Order, Missing, TooMany, NoChannel, ChannelEmpty, LogFull, Unsound, Excluded}
+use Rattle.answers.specs.Answers.{number_of, is_done, Answer}
+use Rattle.answers.specs.declared.Refusal.TheVariants.{CutOff, Kind, BodyLength, FieldRange, Order, Missing, TooMany, NoChannel, ChannelEmpty, LogFull, Unsound, Excluded}
 use Rattle.laws.proofs.Tests.{le_or_lt}
 use Rattle.sets.proofs.Members.{below_power}
 use Rattle.table.specs.Tables.{mask_of}
@@ -36,19 +36,19 @@ use Rattle.room.specs.Rooms.{room_for}
 use Rattle.room.proofs.Courses.{Good, course_good}
 
 number_small : (a : Answer) → number_of a < 256
-number_small Done = omega arith
-number_small CutOff = omega arith
-number_small Kind = omega arith
-number_small BodyLength = omega arith
-number_small FieldRange = omega arith
-number_small Order = omega arith
-number_small Missing = omega arith
-number_small TooMany = omega arith
-number_small NoChannel = omega arith
-number_small ChannelEmpty = omega arith
-number_small LogFull = omega arith
-number_small Unsound = omega arith
-number_small Excluded = omega arith
+number_small (Ok tt) = omega arith
+number_small (Err CutOff) = omega arith
+number_small (Err Kind) = omega arith
+number_small (Err BodyLength) = omega arith
+number_small (Err FieldRange) = omega arith
+number_small (Err Order) = omega arith
+number_small (Err Missing) = omega arith
+number_small (Err TooMany) = omega arith
+number_small (Err NoChannel) = omega arith
+number_small (Err ChannelEmpty) = omega arith
+number_small (Err LogFull) = omega arith
+number_small (Err Unsound) = omega arith
+number_small (Err Excluded) = omega arith
 
 -- the masks of a sound table, and the states of its tasks
 mask_small : (T : Table) → Rules T → (g v : ℕ) → g < 16 → mask_of T.masks g v < 65536

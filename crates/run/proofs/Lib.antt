@@ -1,4 +1,4 @@
-pub mod Within
 pub mod Steps
+pub mod Within
 pub mod Turns
 pub mod Same

@@ -1,125 +1,120 @@
--- A delivery by the way it takes: the answer, and what is stored when it is done.
+-- A delivery by its answer: what is stored when it is done.
 use Prim.Native.Nat.{ℕ, ◌-◌, ◌/◌}
 use mathlib.Core.Bool.{Bool, true, false, cond, not, true≢false}
 use mathlib.Core.List.{List}
-use mathlib.Core.Path.{◌≡◌, refl, sym, ap, ◌∙◌}
+use mathlib.Core.Path.{◌≡◌, refl, sym}
 use lib.Dec.{eqb, ltb}
 use lib.ListN.{get_or, length}
-use Rattle.answers.specs.Answers.{is_done}
-use Rattle.answers.specs.declared.Answer.{Answer}
-use Rattle.answers.specs.declared.Answer.TheVariants.{Done, NoChannel, LogFull, Excluded}
+use Rattle.std.proofs.lemmas.List.{set_comm, get_or-set_other}
+use Rattle.std.specs.Prelude.{◌≢◌, Some, None, Ok, Err}
+use Rattle.answers.specs.Answers.{is_done, Answer}
+use Rattle.answers.specs.declared.Refusal.TheVariants.{LogFull, Excluded}
 use Rattle.numbers.specs.declared.GateNo.{GateNo}
 use Rattle.numbers.specs.declared.TaskNo.{TaskNo}
 use Rattle.channels.specs.declared.Channel1.{Channel1}
 use Rattle.channels.specs.declared.Channel3.{Channel3}
 use Rattle.channels.specs.declared.Message.{Message}
-use Rattle.schedule.specs.declared.Delivery.{Delivery}
-use Rattle.state.specs.States.{task_of, gate_of, up_of, across_of, down_of, with_task, with_gate, pop_up, pop_across, pop_down}
+use Rattle.state.specs.States.{task_of, gate_of, up_of, across_of, down_of, no_task, with_task, with_gate, with_logged, pop_up, pop_across, pop_down, pop_of}
+use Rattle.state.specs.declared.Link.TheVariants.{ToGate, FromGate, ToTask}
 use Rattle.state.specs.declared.Gate.{Gate}
 use Rattle.state.specs.declared.State.{State}
 use Rattle.state.specs.declared.Task.{Task}
-use Rattle.state.specs.declared.Link.TheVariants.{ToGate, FromGate, ToTask}
-use Rattle.state.specs.declared.Front.TheVariants.{Nothing, Oldest}
 use Rattle.tasks.specs.Tasks.{at_task}
 use Rattle.tasks.specs.declared.Work as task
 use Rattle.gates.specs.Gates.{at_gate}
 use Rattle.gates.specs.declared.Work as gate
-use Rattle.delivery.specs.Delivery.{Outcome, with_log, refused, front_at_gate, delivered_at_gate, front_at_task, delivered_at_task, between}
-use Rattle.delivery.specs.declared.Way.{Way}
-use Rattle.delivery.specs.declared.Way.TheVariants.{Nowhere, Along}
-use Rattle.kept.proofs.Ends.{done_at_gate, done_at_task}
-use Rattle.run.specs.Run.{stepped_by}
-use Rattle.run.specs.Parts.{way_by, answered}
+use Rattle.delivery.specs.Delivery.{refused, refused_at, front_at_gate, delivered_at_gate, front_at_task, delivered_at_task}
+use Rattle.kept.proofs.Ends.{done_at_task}
+use Rattle.run.specs.Parts.{answered, gate_stored, task_stored, received}
 
 -- what is done has found room in the log
-pub answered_room : (answer : Answer) (empty ok full : Bool) → answer ≡ answered empty ok full → is_done answer ≡ true → full ≡ false
+pub answered_room : (empty ok full : Bool) → is_done (answered empty ok full) ≡ true → full ≡ false
 unfolding answered
-answered_room answer empty ok full e d = turn empty ok full (ap is_done (sym e) ∙ d)
-  where
-    turn : (empty ok full : Bool) → is_done (answered empty ok full) ≡ true → full ≡ false
-    turn true ok full d = absurd (true≢false (sym d))
-    turn false false full d = absurd (true≢false (sym d))
-    turn false true true d = absurd (true≢false (sym d))
-    turn false true false d = refl
+answered_room true ok full d = absurd (true≢false (sym d))
+answered_room false false full d = absurd (true≢false (sym d))
+answered_room false true true d = absurd (true≢false (sym d))
+answered_room false true false d = refl
 
-module _ (moves vectors masks : List ℕ) (gates : ℕ) (s : State) (log : List ℕ) where
-  -- a delivery by its answer: what comes of it when it is done, and else a refusal
-  abbrev ended : Answer → Outcome → Outcome
-  ended answer done = cond (is_done answer) done (refused s log answer)
-
-  -- the receiver's work on the message m
-  abbrev gate_work : ℕ → ℕ → Message → gate.Work
+module _ (vectors masks : List ℕ) (s : State) where
+  abbrev pub gate_work : ℕ → ℕ → Message → gate.Work
   gate_work t g m = at_gate masks (get_or vectors g 0) g t (gate_of s g) m
 
-  abbrev task_work : ℕ → Message → task.Work
-  task_work b m = at_task moves gates b masks (task_of s b) m
-
-  -- with m at the front of a channel, if it is not empty, where popped is the state without m
-  abbrev at_gate_of : State → ℕ → ℕ → Message → Bool → Outcome
-  at_gate_of popped t g m empty =
-      ended (answered empty (gate_work t g m).ok false) (done_at_gate popped log g (gate_work t g m))
-
-  abbrev at_task_of : State → ℕ → Message → Bool → Outcome
-  at_task_of popped b m empty =
-      ended (answered empty (task_work b m).ok (ltb (length log / 2 - s.logged) (task_work b m).fired))
-      (done_at_task s popped log b (task_work b m))
-
-  front_at_gate_lem : (popped : State) (t g : ℕ) (m : Message) (empty : Bool)
-      → with_log log (front_at_gate vectors masks s t g popped (cond empty Nothing (Oldest m))) ≡ at_gate_of popped t g m empty
+  gate_front : (popped : State) (t g : ℕ) (m : Message) (empty : Bool)
+      → front_at_gate vectors masks s t g popped (cond empty None (Some m))
+      ≡ gate_stored s popped g (gate_work t g m) (answered empty (gate_work t g m).ok false)
   unfolding answered
-  front_at_gate_lem popped t g m true = refl
-  front_at_gate_lem popped t g m false = turn (gate_work t g m).ok
+  gate_front popped t g m true = refl
+  gate_front popped t g m false = turn (gate_work t g m).ok
     where
       turn : (ok : Bool)
-          → with_log log (cond (not ok) (record { state = s; answer = Excluded }) (record { state = with_gate popped g (gate_work t g m).gate; answer = Done }))
-          ≡ ended (cond (not ok) Excluded Done) (done_at_gate popped log g (gate_work t g m))
+          → cond (not ok) (refused_at s Excluded) (record { state = with_gate popped g (gate_work t g m).gate; answer = Ok tt })
+          ≡ gate_stored s popped g (gate_work t g m) (cond (not ok) (Err Excluded) (Ok tt))
       turn true = refl
       turn false = refl
 
-  front_at_task_lem : (popped : State) (b : ℕ) (m : Message) (empty : Bool)
-      → front_at_task moves masks gates s log b popped (cond empty Nothing (Oldest m)) ≡ at_task_of popped b m empty
+  pub to_gate_is : (t : TaskNo) (g : GateNo)
+      → let c = up_of (task_of s t.0) g.0 in let w = gate_work t.0 g.0 c.first in
+      delivered_at_gate vectors masks s t.0 g.0 (pop_of s (ToGate t g))
+      ≡ gate_stored s (with_task s t.0 (pop_up (task_of s t.0) g.0).after) g.0 w (answered (eqb c.count 0) w.ok false)
+  unfolding delivered_at_gate
+  to_gate_is t g =
+      let c : Channel3 = up_of (task_of s t.0) g.0 in
+      gate_front (with_task s t.0 (pop_up (task_of s t.0) g.0).after) t.0 g.0 c.first (eqb c.count 0)
+
+module _ (moves masks : List ℕ) (gates : ℕ) (s : State) (log : List ℕ) where
+  abbrev pub task_work : ℕ → Message → task.Work
+  task_work b m = at_task moves gates b masks (task_of s b) m
+
+  abbrev pub judged : ℕ → Channel1 → Answer
+  judged b c = let w = task_work b c.first in answered (eqb c.count 0) w.ok (ltb (length log / 2 - s.logged) w.fired)
+
+  pub received_answer : (b : ℕ) (c : Channel1) → (received moves masks gates s log b c).answer ≡ judged b c
+  received_answer b c = turn (judged b c)
+    where
+      turn : (a : Answer) → (task_stored s s log b (task_work b c.first) a).answer ≡ a
+      turn (Ok x) = refl
+      turn (Err r) = refl
+
+  task_front : (popped : State) (b : ℕ) (m : Message) (empty : Bool)
+      → front_at_task moves masks gates s log b popped (cond empty None (Some m))
+      ≡ task_stored s popped log b (task_work b m) (answered empty (task_work b m).ok (ltb (length log / 2 - s.logged) (task_work b m).fired))
   unfolding answered
-  front_at_task_lem popped b m true = refl
-  front_at_task_lem popped b m false = turn (task_work b m).ok (ltb (length log / 2 - s.logged) (task_work b m).fired)
+  task_front popped b m true = refl
+  task_front popped b m false = turn (task_work b m).ok (ltb (length log / 2 - s.logged) (task_work b m).fired)
     where
       turn : (ok full : Bool)
-          → cond (not ok) (refused s log Excluded) (cond full (refused s log LogFull) (done_at_task s popped log b (task_work b m)))
-          ≡ ended (cond (not ok) Excluded (cond full LogFull Done)) (done_at_task s popped log b (task_work b m))
+          → cond (not ok) (refused s log (Err Excluded)) (cond full (refused s log (Err LogFull)) (done_at_task s popped log b (task_work b m)))
+          ≡ task_stored s popped log b (task_work b m) (cond (not ok) (Err Excluded) (cond full (Err LogFull) (Ok tt)))
       turn true true = refl
       turn true false = refl
       turn false full = refl
 
-  module _ (tasks : ℕ) (d : Delivery) (way : Way) (is_way : way ≡ way_by tasks gates d) where
-    pub nowhere : way ≡ Nowhere → stepped_by moves vectors masks tasks gates s log d ≡ refused s log NoChannel
-    unfolding between way_by
-    nowhere e = rw (← is_way, e)
+  pub from_gate_is : (g : GateNo) (b : TaskNo)
+      → let c = down_of (gate_of s g.0) b.0 in
+      delivered_at_task moves masks gates s log b.0 (pop_of s (FromGate g b))
+      ≡ task_stored s (with_gate s g.0 (pop_down (gate_of s g.0) b.0).after) log b.0 (task_work b.0 c.first) (judged b.0 c)
+  unfolding delivered_at_task
+  from_gate_is g b =
+      let c : Channel1 = down_of (gate_of s g.0) b.0 in
+      task_front (with_gate s g.0 (pop_down (gate_of s g.0) b.0).after) b.0 c.first (eqb c.count 0)
 
-    pub to_gate : (t : TaskNo) (g : GateNo) → way ≡ Along (ToGate t g)
-        → let p = task_of s t.0 in let c = up_of p g.0 in
-        stepped_by moves vectors masks tasks gates s log d
-        ≡ at_gate_of (with_task s t.0 (pop_up p g.0).task) t.0 g.0 c.first (eqb c.count 0)
-    unfolding between way_by delivered_at_gate
-    to_gate t g e =
-        let p : Task = task_of s t.0 in
-        let c : Channel3 = up_of p g.0 in
-        rw (← is_way, e) (front_at_gate_lem (with_task s t.0 (pop_up p g.0).task) t.0 g.0 c.first (eqb c.count 0))
+  pub to_task_is : (a b : TaskNo)
+      → let c = across_of (task_of s a.0) b.0 in
+      delivered_at_task moves masks gates s log b.0 (pop_of s (ToTask a b))
+      ≡ task_stored s (with_task s a.0 (pop_across (task_of s a.0) b.0).after) log b.0 (task_work b.0 c.first) (judged b.0 c)
+  unfolding delivered_at_task
+  to_task_is a b =
+      let c : Channel1 = across_of (task_of s a.0) b.0 in
+      task_front (with_task s a.0 (pop_across (task_of s a.0) b.0).after) b.0 c.first (eqb c.count 0)
 
-    pub from_gate : (g : GateNo) (b : TaskNo) → way ≡ Along (FromGate g b)
-        → let k = gate_of s g.0 in let c = down_of k b.0 in
-        stepped_by moves vectors masks tasks gates s log d
-        ≡ at_task_of (with_gate s g.0 (pop_down k b.0).gate) b.0 c.first (eqb c.count 0)
-    unfolding between way_by delivered_at_task
-    from_gate g b e =
-        let k : Gate = gate_of s g.0 in
-        let c : Channel1 = down_of k b.0 in
-        rw (← is_way, e) (front_at_task_lem (with_gate s g.0 (pop_down k b.0).gate) b.0 c.first (eqb c.count 0))
+-- a task that has stored its work does not touch what another sent it
+pub emptied_after : (s : State) (a b : ℕ) (w : Task) (n : ℕ) → a ≢ b
+    → with_task (with_logged (with_task s b w) n) a (pop_across (task_of (with_task s b w) a) b).after
+    ≡ with_logged (with_task (with_task s a (pop_across (task_of s a) b).after) b w) n
+emptied_after s a b w n h =
+    rw (get_or-set_other s.tasks b a w no_task h, set_comm s.tasks b a w (pop_across (task_of s a) b).after (λ e. h (sym e)))
 
-    pub to_task : (a b : TaskNo) → way ≡ Along (ToTask a b)
-        → let p = task_of s a.0 in let c = across_of p b.0 in
-        stepped_by moves vectors masks tasks gates s log d
-        ≡ at_task_of (with_task s a.0 (pop_across p b.0).task) b.0 c.first (eqb c.count 0)
-    unfolding between way_by delivered_at_task
-    to_task a b e =
-        let p : Task = task_of s a.0 in
-        let c : Channel1 = across_of p b.0 in
-        rw (← is_way, e) (front_at_task_lem (with_task s a.0 (pop_across p b.0).task) b.0 c.first (eqb c.count 0))
+-- nor does it touch what a gate sent it
+pub emptied_gate : (s : State) (g b : ℕ) (w : Task) (k : Gate) (n : ℕ)
+    → with_gate (with_logged (with_task s b w) n) g k ≡ with_logged (with_task (with_gate s g k) b w) n
+emptied_gate s g b w k n = refl

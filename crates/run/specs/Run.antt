@@ -1,9 +1,7 @@
 -- "Otherwise it delivers until the first refusal".
-use Rattle.std.specs.Prelude.{ℕ, ◌+◌, cond, List}
+use Rattle.std.specs.Prelude.{ℕ, ◌+◌, cond, List, Ok}
 use Rattle.laws.specs.Turns.{up_to}
-use Rattle.answers.specs.Answers.{is_done}
-use Rattle.answers.specs.declared.Answer.{Answer}
-use Rattle.answers.specs.declared.Answer.TheVariants.{Done}
+use Rattle.answers.specs.Answers.{is_done, Answer}
 use Rattle.numbers.specs.Endpoints.{endpoint_of}
 use Rattle.table.specs.declared.Table.{Table}
 use Rattle.schedule.specs.Schedules.{delivery_of}
@@ -20,7 +18,7 @@ pub record Course : Type 0 where
   pub made : ℕ
 
 abbrev pub course_begun : State → List ℕ → Course
-course_begun s log = record { state = s; log = log; answer = Done; made = 0 }
+course_begun s log = record { state = s; log = log; answer = Ok tt; made = 0 }
 
 abbrev pub gone : Course → Outcome → Course
 gone c o = record { state = o.state; log = o.log; answer = o.answer; made = cond (is_done o.answer) (c.made + 1) c.made }

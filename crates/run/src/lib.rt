@@ -1,53 +1,155 @@
 // A run of deliveries until the first refusal.
 #![tactic(auto)]
 
-ghost use Rattle.std.specs.Prelude.{◌≡◌, ◌+◌, ◌-◌, ◌/◌, ◌≤◌, ltb};
-ghost use Rattle.schedule.specs.Schedules.{delivery_of};
-ghost use Rattle.run.specs.Parts.{way_by, answered, stopped};
+ghost use Rattle.std.specs.Prelude.{◌≡◌, ◌≢◌, ◌+◌, ◌-◌, ◌/◌, ◌≤◌, ◌<◌, ltb};
+ghost use Rattle.state.specs.declared.Link.TheVariants.{ToGate, FromGate, ToTask};
+ghost use Rattle.state.specs.States.{pop_of};
+ghost use Rattle.delivery.specs.Delivery.{delivered_at_gate, delivered_at_task};
+ghost use Rattle.delivery.specs.Within.{LinkWithin};
+ghost use Rattle.run.specs.Parts.{answered, received};
 ghost use Rattle.run.specs.Run.{course_begun, course, ran_of, stepped_by};
 
-use answers::Answer;
-use channels::Channel1;
-use delivery::Way;
+use answers::{Answer, Refusal};
+use channels::{Channel, Channel1};
+use numbers::{GateNo, TaskNo};
+use schedule::Delivery;
 use state::{Link, State};
+use table::Rules;
+use tasks::Seat;
 
-// The state after the run, the last answer, and how many deliveries were done.
-#[derive(Clone, Copy)]
+// The state after the run, the last answer, and how many deliveries were done, which counts after a
+// refusal too.
+#[derive(Clone, Copy, Debug, PartialEq, Eq)]
 pub struct Ran {
     pub state: State,
     pub answer: Answer,
     pub made: usize,
 }
 
-// The way of delivery i.
-#[tactic(auto, unfolding(crate::specs::Parts::way_by))]
-fn way_at(tasks: u8, gates: u8, file: &[u8], i: usize) -> Way
-    ensures { result ≡ way_by tasks gates (delivery_of file.now i) }
+// Makes the deliveries of a schedule file in turn until one is refused: so many as `schedule::read`
+// says that it has, or fewer.
+pub fn run(rules: Rules<'_>, mut s: State, log: &mut [u8], file: &[u8], count: usize) -> Ran
+    ensures state { result ≡ ran_of (course (stepped_by rules.entry.moves.now rules.entry.vectors.now rules.entry.masks.now rules.entry.tasks rules.entry.gates) file.now count (course_begun s log.old)) }
+    ensures bytes { log.new ≡ (course (stepped_by rules.entry.moves.now rules.entry.vectors.now rules.entry.masks.now rules.entry.tasks rules.entry.gates) file.now count (course_begun s log.old)).log }
 {
-    let d = schedule::delivery_at(file, i);
-    delivery::way_between(
-        numbers::resolve(tasks, gates, d.from),
-        numbers::resolve(tasks, gates, d.to),
-    )
+    for i in 0..count {
+        if let Err(refusal) = step(rules, &mut s, log, schedule::delivery_at(file, i)) {
+            return Ran {
+                state: s,
+                answer: Err(refusal),
+                made: i,
+            };
+        }
+    }
+    Ran {
+        state: s,
+        answer: Ok(()),
+        made: count,
+    }
 }
 
-// The entries for which a log of this length has room behind the first `logged`.
+// One delivery of a run, made in place: a call that takes the state by value would copy it. A refused
+// one leaves state and log as they are.
+fn step(rules: Rules<'_>, s: &mut State, log: &mut [u8], d: Delivery) -> Answer
+    ensures answer { result ≡ (stepped_by rules.entry.moves.now rules.entry.vectors.now rules.entry.masks.now rules.entry.tasks rules.entry.gates s.old log.old d).answer }
+    ensures state { s.new ≡ (stepped_by rules.entry.moves.now rules.entry.vectors.now rules.entry.masks.now rules.entry.tasks rules.entry.gates s.old log.old d).state }
+    ensures bytes { log.new ≡ (stepped_by rules.entry.moves.now rules.entry.vectors.now rules.entry.masks.now rules.entry.tasks rules.entry.gates s.old log.old d).log }
+{
+    let from = numbers::resolve(rules.tasks, rules.gates, d.from);
+    let to = numbers::resolve(rules.tasks, rules.gates, d.to);
+    let Some(link) = delivery::way_between(from, to) else {
+        return Err(Refusal::NoChannel);
+    };
+    match link {
+        Link::ToGate(t, g) => to_gate(rules, s, t, g),
+        Link::FromGate(g, b) => from_gate(rules, s, log, g, b),
+        Link::ToTask(a, b) => to_task(rules, s, log, a, b),
+    }
+}
+
+// What a receiver does with the filler of an empty channel is not looked at, here and below.
+fn to_gate(rules: Rules<'_>, s: &mut State, t: TaskNo, g: GateNo) -> Answer
+    requires { LinkWithin 16 16 (ToGate t g) }
+    ensures answer { result ≡ (delivered_at_gate rules.entry.vectors.now rules.entry.masks.now s.old t.0 g.0 (pop_of s.old (ToGate t g))).answer }
+    ensures state { s.new ≡ (delivered_at_gate rules.entry.vectors.now rules.entry.masks.now s.old t.0 g.0 (pop_of s.old (ToGate t g))).state }
+{
+    let x = t.0 as usize;
+    let z = g.0 as usize;
+    let channel = s.tasks[x].up[z];
+    let receiver = s.gates[z];
+    let work = gates::at_gate(rules.at_gate(g), t, receiver, channel.first);
+    answered(channel.count == 0, work.ok, false)?;
+    let gate = work.gate;
+    s.tasks[x].up[z] = channel.popped();
+    s.gates[z] = gate;
+    Ok(())
+}
+
+// The same for the two senders of a message to a task: a channel is found in the state, which is lent whole
+// to the receiver meanwhile.
+fn from_gate(rules: Rules<'_>, s: &mut State, log: &mut [u8], g: GateNo, b: TaskNo) -> Answer
+    requires { LinkWithin 16 16 (FromGate g b) }
+    ensures answer { result ≡ (delivered_at_task rules.entry.moves.now rules.entry.masks.now rules.entry.gates s.old log.old b.0 (pop_of s.old (FromGate g b))).answer }
+    ensures state { s.new ≡ (delivered_at_task rules.entry.moves.now rules.entry.masks.now rules.entry.gates s.old log.old b.0 (pop_of s.old (FromGate g b))).state }
+    ensures bytes { log.new ≡ (delivered_at_task rules.entry.moves.now rules.entry.masks.now rules.entry.gates s.old log.old b.0 (pop_of s.old (FromGate g b))).log }
+{
+    let z = g.0 as usize;
+    let y = b.0 as usize;
+    let channel = s.gates[z].down[y];
+    at_task(rules, s, log, b, channel)?;
+    s.gates[z].down[y] = Channel1::empty();
+    Ok(())
+}
+
+fn to_task(rules: Rules<'_>, s: &mut State, log: &mut [u8], a: TaskNo, b: TaskNo) -> Answer
+    requires within { LinkWithin 16 16 (ToTask a b) }
+    requires apart { a.0 ≢ b.0 }
+    ensures answer { result ≡ (delivered_at_task rules.entry.moves.now rules.entry.masks.now rules.entry.gates s.old log.old b.0 (pop_of s.old (ToTask a b))).answer }
+    ensures state { s.new ≡ (delivered_at_task rules.entry.moves.now rules.entry.masks.now rules.entry.gates s.old log.old b.0 (pop_of s.old (ToTask a b))).state }
+    ensures bytes { log.new ≡ (delivered_at_task rules.entry.moves.now rules.entry.masks.now rules.entry.gates s.old log.old b.0 (pop_of s.old (ToTask a b))).log }
+{
+    let x = a.0 as usize;
+    let y = b.0 as usize;
+    let channel = s.tasks[x].across[y];
+    at_task(rules, s, log, b, channel)?;
+    s.tasks[x].across[y] = Channel1::empty();
+    Ok(())
+}
+
+// The message of a channel at the task that receives it. The channel is the sender's to empty.
+fn at_task(rules: Rules<'_>, s: &mut State, log: &mut [u8], b: TaskNo, channel: Channel1) -> Answer
+    requires { b.0 < 16 }
+    ensures answer { result ≡ (received rules.entry.moves.now rules.entry.masks.now rules.entry.gates s.old log.old b.0 channel).answer }
+    ensures state { s.new ≡ (received rules.entry.moves.now rules.entry.masks.now rules.entry.gates s.old log.old b.0 channel).state }
+    ensures bytes { log.new ≡ (received rules.entry.moves.now rules.entry.masks.now rules.entry.gates s.old log.old b.0 channel).log }
+{
+    let y = b.0 as usize;
+    let n = s.logged;
+    let receiver = s.tasks[y];
+    let work = Seat { rules, number: b }.at_task(receiver, channel.first);
+    let full = is_full(log.len(), n, work.fired);
+    answered(channel.count == 0, work.ok, full)?;
+    let task = work.task;
+    let entries = work.entries;
+    s.tasks[y] = task;
+    s.logged = counted(log.len(), n, work.fired);
+    delivery::write(log, n, entries, work.fired);
+    Ok(())
+}
+
+// The entries for which a log of this length has room behind the first `logged`. Numbers, here and
+// below, and not the log: that is lent to be written.
 fn free_room(length: usize, logged: usize) -> usize
     ensures { result ≡ length / 2 - logged }
 {
-    let capacity = length / 2;
-    if logged <= capacity {
-        capacity - logged
-    } else {
-        0
-    }
+    (length / 2).saturating_sub(logged)
 }
 
 // Whether these entries find too little room there.
 fn is_full(length: usize, logged: usize, fired: u8) -> bool
     ensures { result ≡ ltb (length / 2 - logged) fired }
 {
-    free_room(length, logged) < fired as usize
+    free_room(length, logged) < usize::from(fired)
 }
 
 // The log's count with so many entries more, which find room.
@@ -55,7 +157,7 @@ fn counted(length: usize, logged: usize, fired: u8) -> usize
     requires { fired ≤ length / 2 - logged }
     ensures { result ≡ logged + fired }
 {
-    logged + fired as usize
+    logged + usize::from(fired)
 }
 
 // The answer to a delivery after 11 and 8, in this order: 9 of an empty channel, 12 where the receiver's work is not allowed,
@@ -65,131 +167,13 @@ fn answered(empty: bool, ok: bool, full: bool) -> Answer
     ensures { result ≡ answered empty ok full }
 {
     if empty {
-        return Answer::ChannelEmpty;
+        return Err(Refusal::ChannelEmpty);
     }
     if !ok {
-        return Answer::Excluded;
+        return Err(Refusal::Excluded);
     }
     if full {
-        return Answer::LogFull;
+        return Err(Refusal::LogFull);
     }
-    Answer::Done
-}
-
-// A run that ends with a refusal after so many deliveries.
-fn stopped(state: State, answer: Answer, made: usize) -> Ran
-    ensures { result ≡ stopped state answer made }
-{
-    Ran {
-        state,
-        answer,
-        made,
-    }
-}
-
-// Makes the deliveries of a schedule file in turn until one is refused. Each arm takes the parties of its kind of channel out
-// of the state, works on them, and stores them back when the delivery is done: it stands in the loop, since a call that takes
-// the state by value would copy it, and ends with its own turn. What a receiver does with the filler of an empty channel is
-// not looked at.
-pub fn run<'a>(
-    moves: &'a [u8],
-    vectors: &'a [u8],
-    masks: &'a [u16],
-    tasks: u8,
-    gates: u8,
-    mut s: State,
-    log: &'a mut [u8],
-    file: &'a [u8],
-    count: usize,
-) -> Ran
-    ensures state { result ≡ ran_of (course (stepped_by moves.now vectors.now masks.now tasks gates) file.now count (course_begun s log.old)) }
-    ensures bytes { log.new ≡ (course (stepped_by moves.now vectors.now masks.now tasks gates) file.now count (course_begun s log.old)).log }
-{
-    let mut i = 0;
-    while i < count {
-        match way_at(tasks, gates, file, i) {
-            Way::Nowhere => {
-                return stopped(s, Answer::NoChannel, i);
-            }
-            Way::Along(link) => match link {
-                Link::ToGate(t, g) => {
-                    let x = t.0 as usize;
-                    let z = g.0 as usize;
-                    let sender = s.tasks[x];
-                    let receiver = s.gates[z];
-                    let mut up = sender.up;
-                    let channel = up[z];
-                    let message = channel.first;
-                    let vector_count = reads::byte(vectors, z);
-                    let work = gates::at_gate(masks, vector_count, g, t, receiver, message);
-                    let answer = answered(channel.count == 0, work.ok, false);
-                    if !answers::is_done(answer) {
-                        return stopped(s, answer, i);
-                    }
-                    let gate = work.gate;
-                    up[z] = channel.popped();
-                    let popped = sender.with_all_up(up);
-                    s.tasks[x] = popped;
-                    s.gates[z] = gate;
-                    i += 1;
-                    continue;
-                }
-                Link::FromGate(g, b) => {
-                    let z = g.0 as usize;
-                    let y = b.0 as usize;
-                    let n = s.logged;
-                    let mut sender = s.gates[z];
-                    let receiver = s.tasks[y];
-                    let channel = sender.down[y];
-                    let message = channel.first;
-                    let work = tasks::at_task(moves, gates, b, masks, receiver, message);
-                    let full = is_full(log.len(), n, work.fired);
-                    let answer = answered(channel.count == 0, work.ok, full);
-                    if !answers::is_done(answer) {
-                        return stopped(s, answer, i);
-                    }
-                    let task = work.task;
-                    let entries = work.entries;
-                    sender.down[y] = Channel1::empty();
-                    s.gates[z] = sender;
-                    s.tasks[y] = task;
-                    s.logged = counted(log.len(), n, work.fired);
-                    delivery::write(log, n, entries, work.fired);
-                    i += 1;
-                    continue;
-                }
-                Link::ToTask(a, b) => {
-                    let x = a.0 as usize;
-                    let y = b.0 as usize;
-                    let n = s.logged;
-                    let sender = s.tasks[x];
-                    let receiver = s.tasks[y];
-                    let mut across = sender.across;
-                    let channel = across[y];
-                    let message = channel.first;
-                    let work = tasks::at_task(moves, gates, b, masks, receiver, message);
-                    let full = is_full(log.len(), n, work.fired);
-                    let answer = answered(channel.count == 0, work.ok, full);
-                    if !answers::is_done(answer) {
-                        return stopped(s, answer, i);
-                    }
-                    let task = work.task;
-                    let entries = work.entries;
-                    across[y] = Channel1::empty();
-                    let popped = sender.with_all_across(across);
-                    s.tasks[x] = popped;
-                    s.tasks[y] = task;
-                    s.logged = counted(log.len(), n, work.fired);
-                    delivery::write(log, n, entries, work.fired);
-                    i += 1;
-                    continue;
-                }
-            },
-        }
-    }
-    Ran {
-        state: s,
-        answer: Answer::Done,
-        made: count,
-    }
+    Ok(())
 }

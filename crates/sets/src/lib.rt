@@ -8,13 +8,6 @@ ghost use Rattle.laws.specs.Below.{first_from};
 
 use numbers::TaskNo;
 
-// A task that was looked for in a set.
-#[derive(Clone, Copy)]
-pub enum Found {
-    Nobody,
-    Task(TaskNo),
-}
-
 pub fn member(set: u16, task: TaskNo) -> bool
     ensures { result ≡ member_of set task.0 }
 {
@@ -59,45 +52,36 @@ pub fn without(set: u16, task: TaskNo) -> u16
     minus(set, alone(task))
 }
 
-pub fn lowest(set: u16) -> Found
+pub fn lowest(set: u16) -> Option<TaskNo>
     ensures { result ≡ lowest_of set }
 {
-    found_task(first_from(set, 0))
+    first_from(set, 0)
 }
 
 // The lowest member above a task.
-pub fn next_above(set: u16, task: TaskNo) -> Found
+pub fn next_above(set: u16, task: TaskNo) -> Option<TaskNo>
     ensures { result ≡ next_above_of set task.0 }
 {
     let t = task.0;
-    if t < 16 {
-        found_task(first_from(set, t + 1))
-    } else {
-        Found::Nobody
-    }
+    if t < 16 { first_from(set, t + 1) } else { None }
 }
 
-pub fn highest(set: u16) -> Found
+pub fn highest(set: u16) -> Option<TaskNo>
     ensures { result ≡ highest_of set }
 {
-    let mut t: u8 = 16;
-    while 0 < t {
-        if (set >> (t - 1)) % 2 == 1 {
-            return Found::Task(TaskNo(t - 1));
+    for t in (0..16).rev() {
+        if (set >> t) % 2 == 1 {
+            return Some(TaskNo(t));
         }
-        t -= 1;
     }
-    Found::Nobody
+    None
 }
 
 // Whether a task is the set's highest.
 pub fn is_highest(set: u16, task: TaskNo) -> bool
     ensures { result ≡ is_highest_of set task.0 }
 {
-    match highest(set) {
-        Found::Nobody => false,
-        Found::Task(last) => last.0 == task.0,
-    }
+    highest(set) == Some(task)
 }
 
 // The set of one task.
@@ -108,27 +92,15 @@ fn alone(task: TaskNo) -> u16
     if t < 16 { 1 << t } else { 0 }
 }
 
-fn found_task(t: u8) -> Found
-    ensures { result ≡ found_of t }
-{
-    if t < 16 {
-        Found::Task(TaskNo(t))
-    } else {
-        Found::Nobody
-    }
-}
-
-// The first member from a number on, or 16.
-fn first_from(set: u16, from: u8) -> u8
+// The first member from a number on.
+fn first_from(set: u16, from: u8) -> Option<TaskNo>
     requires { from ≤ 16 }
-    ensures { result ≡ first_from from (16 - from) (member_of set) }
+    ensures { result ≡ found_of (first_from from (16 - from) (member_of set)) }
 {
-    let mut t = from;
-    while t < 16 {
+    for t in from..16 {
         if (set >> t) % 2 == 1 {
-            return t;
+            return Some(TaskNo(t));
         }
-        t += 1;
     }
-    t
+    None
 }

@@ -9,27 +9,18 @@ use Rattle.channels.specs.declared.Channel3.{Channel3}
 use Rattle.sound_state.specs.SoundState.{is_no_request}
 use Rattle.sound_state.specs.Parts.{room}
 
-abbrev pub unused_at : List Request → ℕ → Bool
-unused_at waiting i = is_no_request (get_or waiting i no_request)
-
 abbrev pub none_waits : List Request → Bool
-none_waits waiting = all_below 16 (unused_at waiting)
+none_waits waiting = all_below 16 (λ (i : ℕ). is_no_request (get_or waiting i no_request))
 
 abbrev pub is_empty : Channel1 → Bool
 is_empty c = eqb c.count 0 && is_ready c.first
 
-abbrev pub empty_at : List Channel1 → ℕ → Bool
-empty_at channels b = is_empty (get_or channels b empty1)
-
 abbrev pub is_silent : List Channel1 → Bool
-is_silent channels = all_below 16 (empty_at channels)
+is_silent channels = all_below 16 (λ (b : ℕ). is_empty (get_or channels b empty1))
 
 abbrev pub is_ready_only : Bool → Channel3 → Bool
 is_ready_only present c =
     leb c.count (room present 3) && (is_ready c.first && (is_ready c.second && is_ready c.third))
 
-abbrev pub ready_at : Bool → ℕ → List Channel3 → ℕ → Bool
-ready_at present gates up g = is_ready_only (present && ltb g gates) (get_or up g empty3)
-
 abbrev pub all_ready : Bool → ℕ → List Channel3 → Bool
-all_ready present gates up = all_below 16 (ready_at present gates up)
+all_ready present gates up = all_below 16 (λ (g : ℕ). is_ready_only (present && ltb g gates) (get_or up g empty3))

@@ -1,9 +1,7 @@
 -- "11 covers .. in the state": each rule of that paragraph.
-use Rattle.std.specs.Prelude.{ℕ, Bool, true, false, cond, ◌&&◌, List, eqb, ltb, leb, get_or}
+use Rattle.std.specs.Prelude.{ℕ, Bool, true, false, cond, ◌&&◌, List, eqb, ltb, leb, get_or, is_some}
 use Rattle.laws.specs.Below.{all_below}
 use Rattle.sets.specs.Sets.{member_of, all_below_of, next_above_of}
-use Rattle.sets.specs.declared.Found.{Found}
-use Rattle.sets.specs.declared.Found.TheVariants as found
 use Rattle.table.specs.Tables.{mask_of}
 use Rattle.channels.specs.Channels.{no_request, is_ready}
 use Rattle.channels.specs.declared.Request.{Request}
@@ -19,10 +17,6 @@ use Rattle.state.specs.declared.Deal.TheVariants.{Idle, Dealing}
 use Rattle.state.specs.declared.Task.{Task}
 use Rattle.state.specs.declared.Gate.{Gate}
 use Rattle.state.specs.declared.State.{State}
-
-abbrev pub is_somebody : Found → Bool
-is_somebody found.Nobody = false
-is_somebody (found.Task t) = true
 
 -- the filler of a waiting list
 abbrev pub is_no_request : Request → Bool
@@ -62,7 +56,7 @@ module _ (vectors masks : List ℕ) where
   -- "a Held task lies in the named vector and isn't its highest"; "a Free task has an empty list"
   abbrev pub mode_sound : ℕ → ℕ → Mode → Bool
   mode_sound t count Free = eqb count 0
-  mode_sound t count (Held r) = names t r && is_somebody (next_above_of (mask_of masks r.gate.0 r.vector) t)
+  mode_sound t count (Held r) = names t r && is_some (next_above_of (mask_of masks r.gate.0 r.vector) t)
 
   -- what task a may send task b: "higher tasks LOCK, lower tasks COMMIT and ABORT"; "a result names a present gate"
   abbrev pub across_fits : ℕ → ℕ → ℕ → Message → Bool

@@ -1,84 +1,69 @@
-// Whether a state keeps the rules that number 11 asks of it: a function for each. There is no early
-// exit, so that places are compared side by side. A whole list of places is first looked at for what
-// most hold, which is nothing, and only another is gone through with the table.
-#![tactic(auto, using(laws::proofs::Numbers::below_none, laws::proofs::Numbers::below_turn))]
+// Whether a state keeps the rules that number 11 asks of it: a function for each. A whole list of
+// places is first looked at for what most hold, which is nothing, and only another is gone through
+// with the table.
+#![tactic(auto)]
 
-ghost use Rattle.std.specs.Prelude.{◌≡◌};
+ghost use Rattle.std.specs.Prelude.{◌≡◌, ℕ, Bool, get_or};
+ghost use Rattle.laws.specs.Below.{all_below};
+ghost use Rattle.channels.specs.declared.Message.{Message};
 ghost use Rattle.sound_state.specs.Quiet.{none_waits, is_empty, is_silent, is_ready_only, all_ready};
-ghost use Rattle.sound_state.specs.SoundState.{is_somebody, is_no_request, names, mode_sound, up_fits, up_sound, across_fits, down_fits, deal_sound, task_sound, gate_sound, sound_state};
-ghost use Rattle.sound_state.specs.Parts.{one_sound, place, room, state_sound, waiting_sound, waitings_sound, ups_sound, acrosses_sound, downs_sound};
+ghost use Rattle.sound_state.specs.SoundState.{is_no_request, names, mode_sound, up_fits, up_sound, across_fits, down_fits, deal_sound, task_sound, gate_sound, sound_state};
+ghost use Rattle.sound_state.specs.Parts.{place, room, state_sound, one_sound, waiting_sound, waitings_sound, ups_sound, channels_sound, TestsBy, AnswersBy};
 
 use channels::{Channel1, Channel3, Message, Request};
 use numbers::{GateNo, TaskNo};
-use sets::Found;
 use state::{Deal, Gate, Mode, State, Task};
-use table::Table;
+use table::{Rules, Table};
 
-// Whether a state keeps the rules that number 11 asks of it, by the parts of the table that they speak of.
-pub fn sound<'a>(
-    vectors: &'a [u8],
-    masks: &'a [u16],
-    tasks: u8,
-    gates: u8,
-    states: &'a [u8],
-    s: State,
-) -> bool
-    ensures { result ≡ sound_state vectors.now masks.now tasks gates states.now s }
+// Whether a state keeps the rules that number 11 asks of it.
+pub fn sound(rules: Rules<'_>, s: State) -> bool
+    ensures { result ≡ sound_state rules.entry.vectors.now rules.entry.masks.now rules.entry.tasks rules.entry.gates rules.entry.states.now s }
+{
+    let tasks = every(&s.tasks, |t, p| task_sound(rules, TaskNo(t), p));
+    tasks & every(&s.gates, |g, k| gate_sound(rules, GateNo(g), k))
+}
+
+// Whether each place of a list passes a test of its number and what it holds. Unlike `.all(..)` this
+// goes on past a place that fails, so that the places are compared side by side. Crate soundness has
+// the like over numbers; one for both would be public and ask something of its callers.
+fn every<T: Copy, F: Fn(u8, T) -> bool>(places: &[T; 16], passes: F) -> bool
+    requires { F.IsAlwaysCallable passes }
+    ensures { (P : ℕ → Bool) → TestsBy (F.post passes) places.now P → result ≡ all_below 16 P }
 {
     let mut ok = true;
-    // There is room for as many gates as tasks.
-    for i in 0..Table::TASKS {
-        let p = s.tasks[i];
-        let k = s.gates[i];
-        let count = reads::byte(states, i);
-        let task = task_sound(vectors, masks, tasks, gates, TaskNo(i as u8), count, p);
-        let gate = gate_sound(vectors, masks, tasks, gates, GateNo(i as u8), k);
-        ok = (task & gate) & ok;
+    for (i, x) in places.iter().enumerate() {
+        ok = passes(i as u8, *x) & ok;
     }
     ok
 }
 
-#[tactic(auto, unfolding(crate::specs::SoundState::task_sound))]
-fn task_sound<'a>(
-    vectors: &'a [u8],
-    masks: &'a [u16],
-    tasks: u8,
-    gates: u8,
-    task: TaskNo,
-    states: u8,
-    p: Task,
-) -> bool
-    ensures { result ≡ task_sound vectors.now masks.now tasks gates task.0 states p }
+// A task's number stands beside the rules, here and below: `Seat`, which has both, is of a crate above.
+fn task_sound(rules: Rules<'_>, task: TaskNo, p: Task) -> bool
+    ensures { result ≡ task_sound rules.entry.vectors.now rules.entry.masks.now rules.entry.tasks rules.entry.gates task.0 (get_or rules.entry.states.now task.0 0) p }
 {
-    let present = task.0 < tasks;
-    let count = p.count;
-    let mode = p.mode;
-    let own = state_sound(present, states, p.state)
-        & (mode_sound(vectors, masks, task, count, mode) & (count as usize <= Task::WAITING));
-    let waiting = p.waiting;
-    let up = p.up;
-    let across = p.across;
-    own & (waitings_sound(vectors, masks, task, count, waiting)
-        & (ups_sound(present, gates, up)
-            & acrosses_sound(vectors, masks, tasks, gates, present, task, across)))
+    let present = task.0 < rules.tasks;
+    let states = reads::at(rules.states, task.0.into(), 0);
+    let state = state_sound(present, states, p.state);
+    let mode = mode_sound(rules, task, p.count, p.mode);
+    let few = usize::from(p.count) <= Task::WAITING;
+    let waiting = waitings_sound(rules, task, p.count, &p.waiting);
+    let up = ups_sound(present, rules.gates, &p.up);
+    let across = channels_sound(present, rules.tasks, &p.across, |to, message| {
+        across_fits(rules, task, to, message)
+    });
+    (state & (mode & few)) & (waiting & (up & across))
 }
 
-#[tactic(auto, unfolding(crate::specs::SoundState::gate_sound))]
-fn gate_sound<'a>(
-    vectors: &'a [u8],
-    masks: &'a [u16],
-    tasks: u8,
-    gates: u8,
-    gate: GateNo,
-    k: Gate,
-) -> bool
-    ensures { result ≡ gate_sound vectors.now masks.now tasks gates gate.0 k }
+fn gate_sound(rules: Rules<'_>, gate: GateNo, k: Gate) -> bool
+    ensures { result ≡ gate_sound rules.entry.vectors.now rules.entry.masks.now rules.entry.tasks rules.entry.gates gate.0 k }
 {
-    let present = gate.0 < gates;
-    let deal = k.deal;
-    let down = k.down;
-    let own = sets::all_below(k.offers, room_of(present, tasks)) & deal_sound(vectors, gate, deal);
-    own & downs_sound(vectors, masks, tasks, present, gate, down)
+    let present = gate.0 < rules.gates;
+    let offers = sets::all_below(k.offers, room_of(present, rules.tasks));
+    let deal = deal_sound(rules, gate, k.deal);
+    let down = channels_sound(present, rules.tasks, &k.down, |to, message| {
+        down_fits(rules, gate, to, message)
+    });
+    offers & deal & down
 }
 
 // Room there is only between parties that are present.
@@ -102,135 +87,94 @@ fn state_sound(present: bool, states: u8, state: u8) -> bool
 }
 
 // Whether a request names an existing vector that holds a task.
-fn names_held<'a>(vectors: &'a [u8], masks: &'a [u16], task: TaskNo, request: Request) -> bool
-    ensures { result ≡ names vectors.now masks.now task.0 request }
+fn names_held(rules: Rules<'_>, task: TaskNo, request: Request) -> bool
+    ensures { result ≡ names rules.entry.vectors.now rules.entry.masks.now task.0 request }
 {
-    let gate = request.gate;
-    let vector = request.vector;
-    let exists = vector < reads::byte(vectors, gate.0 as usize);
-    exists & sets::member(table::mask_at(masks, gate, vector), task)
+    let vectors = rules.at_gate(request.gate);
+    (request.vector < vectors.count) & sets::member(vectors.mask(request.vector), task)
 }
 
-fn mode_sound<'a>(vectors: &'a [u8], masks: &'a [u16], task: TaskNo, count: u8, mode: Mode) -> bool
-    ensures { result ≡ mode_sound vectors.now masks.now task.0 count mode }
+fn mode_sound(rules: Rules<'_>, task: TaskNo, count: u8, mode: Mode) -> bool
+    ensures { result ≡ mode_sound rules.entry.vectors.now rules.entry.masks.now task.0 count mode }
 {
     match mode {
         Mode::Free => count == 0,
         Mode::Held(request) => {
-            let mask = table::mask_at(masks, request.gate, request.vector);
-            let higher = is_somebody(sets::next_above(mask, task));
-            names_held(vectors, masks, task, request) & higher
+            let mask = rules.mask_at(request.gate, request.vector);
+            names_held(rules, task, request) & sets::next_above(mask, task).is_some()
         }
     }
 }
 
-fn is_somebody(found: Found) -> bool
-    ensures { result ≡ is_somebody found }
-{
-    match found {
-        Found::Nobody => false,
-        Found::Task(_) => true,
-    }
-}
-
-fn waitings_sound<'a>(
-    vectors: &'a [u8],
-    masks: &'a [u16],
+fn waitings_sound(
+    rules: Rules<'_>,
     task: TaskNo,
     count: u8,
-    waiting: [Request; Task::WAITING],
+    waiting: &[Request; Task::WAITING],
 ) -> bool
-    ensures { result ≡ waitings_sound vectors.now masks.now task.0 count waiting }
+    ensures { result ≡ waitings_sound rules.entry.vectors.now rules.entry.masks.now task.0 count waiting.now }
 {
     if (count == 0) & none_waits(waiting) {
         return true;
     }
-    let mut ok = true;
-    for i in 0..Task::WAITING {
-        let request = waiting[i];
-        ok = waiting_sound(vectors, masks, task, i < count as usize, request) & ok;
-    }
-    ok
+    every(waiting, |i, request| {
+        waiting_sound(rules, task, i < count, request)
+    })
 }
 
-fn none_waits(waiting: [Request; Task::WAITING]) -> bool
-    ensures { result ≡ none_waits waiting }
+fn none_waits(waiting: &[Request; Task::WAITING]) -> bool
+    ensures { result ≡ none_waits waiting.now }
 {
-    let mut ok = true;
-    for i in 0..Task::WAITING {
-        let request = waiting[i];
-        ok = is_no_request(request) & ok;
-    }
-    ok
+    every(waiting, |_, request| is_no_request(request))
 }
 
-fn waiting_sound<'a>(
-    vectors: &'a [u8],
-    masks: &'a [u16],
-    task: TaskNo,
-    used: bool,
-    request: Request,
-) -> bool
-    ensures { result ≡ waiting_sound vectors.now masks.now task.0 used request }
+fn waiting_sound(rules: Rules<'_>, task: TaskNo, used: bool, request: Request) -> bool
+    ensures { result ≡ waiting_sound rules.entry.vectors.now rules.entry.masks.now task.0 used request }
 {
     if used {
-        return names_held(vectors, masks, task, request);
+        names_held(rules, task, request)
+    } else {
+        is_no_request(request)
     }
-    is_no_request(request)
 }
 
 fn is_no_request(request: Request) -> bool
     ensures { result ≡ is_no_request request }
 {
-    (request.gate.0 == 0) & (request.vector == 0)
+    request == channels::no_request()
 }
 
-fn ups_sound(present: bool, gates: u8, up: [Channel3; Table::GATES]) -> bool
-    ensures { result ≡ ups_sound present gates up }
+#[tactic(auto, using(crate::proofs::Keep::ready_sound))]
+fn ups_sound(present: bool, gates: u8, up: &[Channel3; Table::GATES]) -> bool
+    ensures { result ≡ ups_sound present gates up.now }
 {
     if all_ready(present, gates, up) {
         return true;
     }
-    let mut ok = true;
-    for g in 0..Table::GATES {
-        let c = up[g];
-        ok = up_sound(present & (g < gates as usize), GateNo(g as u8), c) & ok;
-    }
-    ok
+    every(up, |g, c| up_sound(present & (g < gates), GateNo(g), c))
 }
 
 // Whether no channel to a gate holds anything but READY, and each is within its room.
-fn all_ready(present: bool, gates: u8, up: [Channel3; Table::GATES]) -> bool
-    ensures { result ≡ all_ready present gates up }
+fn all_ready(present: bool, gates: u8, up: &[Channel3; Table::GATES]) -> bool
+    ensures { result ≡ all_ready present gates up.now }
 {
-    let mut ok = true;
-    for g in 0..Table::GATES {
-        let c = up[g];
-        ok = is_ready_only(present & (g < gates as usize), c) & ok;
-    }
-    ok
+    every(up, |g, c| is_ready_only(present & (g < gates), c))
 }
 
 fn is_ready_only(present: bool, c: Channel3) -> bool
     ensures { result ≡ is_ready_only present c }
 {
-    let first = c.first;
-    let second = c.second;
-    let third = c.third;
     let within = c.count <= room_of(present, 3);
-    within & (first.is_ready() & (second.is_ready() & third.is_ready()))
+    within & (c.first.is_ready() & (c.second.is_ready() & c.third.is_ready()))
 }
 
 fn up_sound(present: bool, gate: GateNo, c: Channel3) -> bool
     ensures { result ≡ up_sound present gate.0 c }
 {
-    let first = c.first;
-    let second = c.second;
-    let third = c.third;
     let within = c.count <= room_of(present, 3);
-    let oldest = place_holds(0 < c.count, up_fits(gate, first), first.is_ready());
-    let middle = place_holds(1 < c.count, up_fits(gate, second), second.is_ready());
-    let newest = place_holds(2 < c.count, up_fits(gate, third), third.is_ready());
+    let oldest = place_holds(0 < c.count, up_fits(gate, c.first), c.first.is_ready());
+    let middle = place_holds(1 < c.count, up_fits(gate, c.second), c.second.is_ready());
+    let newest = place_holds(2 < c.count, up_fits(gate, c.third), c.third.is_ready());
     within & (oldest & (middle & newest))
 }
 
@@ -240,125 +184,72 @@ fn up_fits(gate: GateNo, message: Message) -> bool
     match message {
         Message::Ready => true,
         Message::Lock(_) => false,
-        Message::Commit(of) => of.0 == gate.0,
-        Message::Abort(of) => of.0 == gate.0,
+        Message::Commit(of) | Message::Abort(of) => of == gate,
     }
 }
 
-fn acrosses_sound<'a>(
-    vectors: &'a [u8],
-    masks: &'a [u16],
-    tasks: u8,
-    gates: u8,
+// The channels to the tasks, where `fits` says what may be sent to each.
+#[tactic(auto, using(crate::proofs::Keep::silent_sound))]
+fn channels_sound<F: Fn(TaskNo, Message) -> bool>(
     present: bool,
-    from: TaskNo,
-    across: [Channel1; Table::TASKS],
+    tasks: u8,
+    channels: &[Channel1; Table::TASKS],
+    fits: F,
 ) -> bool
-    ensures { result ≡ acrosses_sound vectors.now masks.now tasks gates present from.0 across }
+    requires { F.IsAlwaysCallable fits }
+    ensures { (P : ℕ → Message → Bool) → AnswersBy (F.post fits) P → result ≡ channels_sound present tasks P channels.now }
 {
-    if is_silent(across) {
+    if is_silent(channels) {
         return true;
     }
-    let mut ok = true;
-    for b in 0..Table::TASKS {
-        let c = across[b];
-        let message = c.first;
-        let fits = across_fits(vectors, masks, gates, from, TaskNo(b as u8), message);
-        ok = one_sound(present & (b < tasks as usize), fits, c) & ok;
-    }
-    ok
-}
-
-fn downs_sound<'a>(
-    vectors: &'a [u8],
-    masks: &'a [u16],
-    tasks: u8,
-    present: bool,
-    from: GateNo,
-    down: [Channel1; Table::TASKS],
-) -> bool
-    ensures { result ≡ downs_sound vectors.now masks.now tasks present from.0 down }
-{
-    if is_silent(down) {
-        return true;
-    }
-    let mut ok = true;
-    for b in 0..Table::TASKS {
-        let c = down[b];
-        let message = c.first;
-        let fits = down_fits(vectors, masks, from, TaskNo(b as u8), message);
-        ok = one_sound(present & (b < tasks as usize), fits, c) & ok;
-    }
-    ok
+    every(channels, |b, c| {
+        one_sound(present & (b < tasks), fits(TaskNo(b), c.first), c)
+    })
 }
 
 // Whether no channel to a task holds a message.
-fn is_silent(channels: [Channel1; Table::TASKS]) -> bool
-    ensures { result ≡ is_silent channels }
+fn is_silent(channels: &[Channel1; Table::TASKS]) -> bool
+    ensures { result ≡ is_silent channels.now }
 {
-    let mut ok = true;
-    for b in 0..Table::TASKS {
-        let c = channels[b];
-        ok = is_empty(c) & ok;
-    }
-    ok
+    every(channels, |_, c| is_empty(c))
 }
 
 fn is_empty(c: Channel1) -> bool
     ensures { result ≡ is_empty c }
 {
-    let first = c.first;
-    (c.count == 0) & first.is_ready()
+    (c.count == 0) & c.first.is_ready()
 }
 
 fn one_sound(present: bool, fits: bool, c: Channel1) -> bool
     ensures { result ≡ one_sound present fits c }
 {
-    let first = c.first;
-    (c.count <= room_of(present, 1)) & place_holds(0 < c.count, fits, first.is_ready())
+    (c.count <= room_of(present, 1)) & place_holds(0 < c.count, fits, c.first.is_ready())
 }
 
-fn across_fits<'a>(
-    vectors: &'a [u8],
-    masks: &'a [u16],
-    gates: u8,
-    from: TaskNo,
-    to: TaskNo,
-    message: Message,
-) -> bool
-    ensures { result ≡ across_fits vectors.now masks.now gates from.0 to.0 message }
+fn across_fits(rules: Rules<'_>, from: TaskNo, to: TaskNo, message: Message) -> bool
+    ensures { result ≡ across_fits rules.entry.vectors.now rules.entry.masks.now rules.entry.gates from.0 to.0 message }
 {
     match message {
         Message::Ready => false,
-        Message::Lock(request) => (from.0 < to.0) & names_held(vectors, masks, to, request),
-        Message::Commit(of) => (to.0 < from.0) & (of.0 < gates),
-        Message::Abort(of) => (to.0 < from.0) & (of.0 < gates),
+        Message::Lock(request) => (from < to) & names_held(rules, to, request),
+        Message::Commit(of) | Message::Abort(of) => (to < from) & (of.0 < rules.gates),
     }
 }
 
-fn down_fits<'a>(
-    vectors: &'a [u8],
-    masks: &'a [u16],
-    from: GateNo,
-    to: TaskNo,
-    message: Message,
-) -> bool
-    ensures { result ≡ down_fits vectors.now masks.now from.0 to.0 message }
+fn down_fits(rules: Rules<'_>, from: GateNo, to: TaskNo, message: Message) -> bool
+    ensures { result ≡ down_fits rules.entry.vectors.now rules.entry.masks.now from.0 to.0 message }
 {
     match message {
-        Message::Ready => false,
-        Message::Lock(request) => (request.gate.0 == from.0)
-            & names_held(vectors, masks, to, request),
-        Message::Commit(_) => false,
-        Message::Abort(_) => false,
+        Message::Lock(request) => (request.gate == from) & names_held(rules, to, request),
+        Message::Ready | Message::Commit(_) | Message::Abort(_) => false,
     }
 }
 
-fn deal_sound(vectors: &[u8], gate: GateNo, deal: Deal) -> bool
-    ensures { result ≡ deal_sound vectors.now gate.0 deal }
+fn deal_sound(rules: Rules<'_>, gate: GateNo, deal: Deal) -> bool
+    ensures { result ≡ deal_sound rules.entry.vectors.now gate.0 deal }
 {
     match deal {
         Deal::Idle => true,
-        Deal::Dealing(vector) => vector < reads::byte(vectors, gate.0 as usize),
+        Deal::Dealing(vector) => vector < rules.vectors_at(gate),
     }
 }

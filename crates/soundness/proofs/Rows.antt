@@ -2,28 +2,16 @@
 use Prim.Native.Nat.{ℕ, ◌+◌, ◌*◌, ◌/◌, ◌%◌, ◌<◌}
 use mathlib.Core.Bool.{Bool, true, false, cond, ◌&&◌}
 use mathlib.Core.List.{List}
-use mathlib.Core.Path.{◌≡◌, ap, ◌∙◌}
+use mathlib.Core.Path.{◌≡◌, refl, ap, ◌∙◌}
 use native.Mathlib.Omega.{arith}
 use lib.Dec.{ltb, leb}
-use lib.ListN.{get_or, length, replicate}
+use lib.ListN.{get_or, length}
 use Rattle.laws.specs.Below.{all_below}
 use Rattle.laws.proofs.Numbers.{below_same, below_rows, each_below}
-use Rattle.laws.proofs.Stores.{zero_at}
 use Rattle.table.specs.Tables.{cell_of}
 use Rattle.table.specs.declared.Table.{Table}
 use Rattle.soundness.specs.Sound.{most_at, moves_sound}
-
--- the cell of a row at gate g
-abbrev pub cell_fits : List ℕ → ℕ → List ℕ → ℕ → Bool
-cell_fits moves row limits g = leb (get_or moves (row * 16 + g) 0) (get_or limits g 0)
-
--- the row of task t and state x
-abbrev pub row_fits : List ℕ → ℕ → ℕ → List ℕ → ℕ → Bool
-row_fits moves t states limits x = all_below 16 (cell_fits moves (t * 16 + x) (cond (ltb x states) limits (replicate 16 0)))
-
--- the moves of task t
-abbrev pub moves_fit : Table → ℕ → Bool
-moves_fit T t = all_below 16 (λ (x : ℕ). all_below 16 (λ (g : ℕ). leb (get_or T.moves (cell_of t x g) 0) (most_at T t x g)))
+use Rattle.soundness.specs.Parts.{row_fits, moves_fit}
 
 -- cell i holds n
 abbrev pub move_sound : Table → ℕ → ℕ → Bool
@@ -50,11 +38,11 @@ moves_by_task T l =
 -- limits by gate give those of `most_at`
 pub rows_fit : (T : Table) (t : ℕ) (limits : List ℕ)
     → ((g : ℕ) → g < 16 → get_or limits g 0 ≡ cond (ltb g T.gates) (get_or T.states t 0) 0)
-    → all_below 16 (row_fits T.moves t (get_or T.states t 0) limits) ≡ moves_fit T t
+    → all_below 16 (λ (x : ℕ). row_fits T.moves (t * 16 + x) (ltb x (get_or T.states t 0)) limits) ≡ moves_fit T t
 rows_fit T t limits h =
     below_same 16 _ _ (λ (x : ℕ) (_ : x < 16). below_same 16 _ _ (λ (g : ℕ) (k : g < 16).
     ap (leb (get_or T.moves (cell_of t x g) 0)) (most (ltb x (get_or T.states t 0)) g k)))
   where
-    most : (b : Bool) (g : ℕ) → g < 16 → get_or (cond b limits (replicate 16 0)) g 0 ≡ cond (b && ltb g T.gates) (get_or T.states t 0) 0
+    most : (b : Bool) (g : ℕ) → g < 16 → cond b (get_or limits g 0) 0 ≡ cond (b && ltb g T.gates) (get_or T.states t 0) 0
     most true g k = h g k
-    most false g k = zero_at 16 g
+    most false g k = refl

@@ -1,4 +1,5 @@
 -- What a sound table says of its parts, rule by rule.
+use Rattle.std.specs.Prelude.{Some}
 use Prim.Native.Nat.{ℕ, ◌+◌, ◌<◌, ◌≤◌}
 use mathlib.Core.Bool.{Bool, true, false, cond, ◌&&◌, not}
 use mathlib.Core.Logic.{⊎_elim}
@@ -9,11 +10,11 @@ use lib.ListN.{get_or, length, get_or-eq_default}
 use borrow.Author.Tests.{ltb-true, leb-true, eqb-true, eqb-false, not-true, lt-ltb, le-ltb}
 use Rattle.laws.specs.Below.{all_below}
 use Rattle.laws.proofs.Numbers.{below_at, each_at}
-use Rattle.laws.proofs.Tests.{and_left, and_right, le_or_lt, true_or_false}
+use Rattle.std.proofs.lemmas.Bool.{cases_Bool, and_parts}
+use Rattle.laws.proofs.Tests.{le_or_lt}
 use Rattle.sets.specs.Sets.{all_below_of}
 use Rattle.table.specs.Tables.{count_in, is_cell, cell_of, move_of, mask_of, new_below}
 use Rattle.table.specs.declared.Table.{Table}
-use Rattle.table.specs.declared.Move.TheVariants.{To}
 use Rattle.table.proofs.Cells.{InRoom, in_room, entry_of, entry_at}
 use Rattle.soundness.proofs.Rows.{cell_sound}
 use Rattle.soundness.specs.Parts.{task_fits}
@@ -42,15 +43,15 @@ pub record Rules (T : Table) : Type 0 where
   pub no_mask : (g v : ℕ) → g < 16 → get_or T.vectors g 0 ≤ v → mask_of T.masks g v ≡ 0
 
 pub count_some : (n : ℕ) → count_in n ≡ true → 1 ≤ n
-count_some n h = leb-true 1 n (and_left (leb 1 n) (leb n 16) h)
+count_some n h = leb-true 1 n ((and_parts (leb 1 n) (leb n 16) h).0)
 
 pub count_most : (n : ℕ) → count_in n ≡ true → n ≤ 16
-count_most n h = leb-true n 16 (and_right (leb 1 n) (leb n 16) h)
+count_most n h = leb-true n 16 ((and_parts (leb 1 n) (leb n 16) h).1)
 
 pub states_le : (present : Bool) (states start : ℕ) → task_fits present states start ≡ true → states ≤ 16
-states_le true states start h = count_most states (and_left (count_in states) (ltb start states) h)
+states_le true states start h = count_most states ((and_parts (count_in states) (ltb start states) h).0)
 states_le false states start h =
-    let e : states ≡ 0 = eqb-true states 0 (and_left (eqb states 0) (eqb start 0) h) in omega arith
+    let e : states ≡ 0 = eqb-true states 0 ((and_parts (eqb states 0) (eqb start 0) h).0) in omega arith
 
 pub count_le : (there : Bool) (n : ℕ) → n ≤ cond there 8 0 → n ≤ 8
 count_le true n h = h
@@ -58,7 +59,7 @@ count_le false n h = omega arith
 
 module _ (T : Table) (t : ℕ) (h : task_entry_sound T t ≡ true) where
   start_of : t < T.tasks → get_or T.starts t 0 < get_or T.states t 0
-  start_of l = ltb-true _ _ (and_right (count_in (get_or T.states t 0)) _ (rw (lt-ltb t T.tasks l) at h))
+  start_of l = ltb-true _ _ ((and_parts (count_in (get_or T.states t 0)) _ (rw (lt-ltb t T.tasks l) at h)).1)
 
   absent : T.tasks ≤ t → (eqb (get_or T.states t 0) 0 && eqb (get_or T.starts t 0) 0) ≡ true
   absent l = rw (le-ltb t T.tasks l) at h
@@ -76,7 +77,7 @@ module _ (T : Table) (g : ℕ) (h : gate_entry_sound T g ≡ true) where
   count = get_or T.vectors g 0
 
   few : count ≤ cond (ltb g T.gates) 8 0
-  few = leb-true _ _ (and_left _ _ h)
+  few = leb-true _ _ ((and_parts _ _ h).0)
 
   at_most : count ≤ 8
   at_most = count_le (ltb g T.gates) count few
@@ -85,7 +86,7 @@ module _ (T : Table) (g : ℕ) (h : gate_entry_sound T g ≡ true) where
   none l = let n : count ≤ 0 = rw (le-ltb g T.gates l) at few in omega arith
 
   fits : (v : ℕ) → v < 8 → vector_fits T.masks g count T.tasks v ≡ true
-  fits = below_at 8 (vector_fits T.masks g count T.tasks) (and_right (leb count (cond (ltb g T.gates) 8 0)) _ h)
+  fits = below_at 8 (vector_fits T.masks g count T.tasks) ((and_parts (leb count (cond (ltb g T.gates) 8 0)) _ h).1)
 
   module _ (v : ℕ) where
     abbrev m : ℕ
@@ -95,15 +96,15 @@ module _ (T : Table) (g : ℕ) (h : gate_entry_sound T g ≡ true) where
     mask_fits l = rw (lt-ltb v count l) at (fits v (omega (arith, at_most)))
 
     mask_some : v < count → m ≡ 0 → ⊥
-    mask_some l = eqb-false m 0 (not-true _ (and_left (not (eqb m 0)) _ (mask_fits l)))
+    mask_some l = eqb-false m 0 (not-true _ ((and_parts (not (eqb m 0)) _ (mask_fits l)).0))
 
     mask_rest : v < count → (all_below_of m T.tasks && new_below T.masks g v m) ≡ true
-    mask_rest l = and_right (not (eqb m 0)) _ (mask_fits l)
+    mask_rest l = (and_parts (not (eqb m 0)) _ (mask_fits l)).1
 
     mask_new : v < count → (w : ℕ) → w < v → mask_of T.masks g w ≡ m → ⊥
     unfolding new_below
     mask_new l w k = eqb-false _ m (not-true _
-        (below_at v (λ (w : ℕ). not (eqb (mask_of T.masks g w) m)) (and_right (all_below_of m T.tasks) _ (mask_rest l)) w k))
+        (below_at v (λ (w : ℕ). not (eqb (mask_of T.masks g w) m)) ((and_parts (all_below_of m T.tasks) _ (mask_rest l)).1) w k))
 
     mask_none : count ≤ v → m ≡ 0
     mask_none l = ⊎_elim
@@ -119,26 +120,26 @@ sound_rules T h =
     let C : Bool = all_below 16 (task_entry_sound T) in
     let D : Bool = moves_sound T in
     let E : Bool = all_below 16 (gate_entry_sound T) in
-    let counts : (A && B) ≡ true = and_left (A && B) (C && (D && E)) h in
-    let rest : (C && (D && E)) ≡ true = and_right (A && B) (C && (D && E)) h in
-    let last : (D && E) ≡ true = and_right C (D && E) rest in
-    let most : T.tasks ≤ 16 = count_most T.tasks (and_left A B counts) in
-    let task = below_at 16 (task_entry_sound T) (and_left C (D && E) rest) in
-    let gate = below_at 16 (gate_entry_sound T) (and_right D E last) in
+    let counts : (A && B) ≡ true = (and_parts (A && B) (C && (D && E)) h).0 in
+    let rest : (C && (D && E)) ≡ true = (and_parts (A && B) (C && (D && E)) h).1 in
+    let last : (D && E) ≡ true = (and_parts C (D && E) rest).1 in
+    let most : T.tasks ≤ 16 = count_most T.tasks ((and_parts A B counts).0) in
+    let task = below_at 16 (task_entry_sound T) ((and_parts C (D && E) rest).0) in
+    let gate = below_at 16 (gate_entry_sound T) ((and_parts D E last).1) in
     record {
-      some_task = count_some T.tasks (and_left A B counts);
+      some_task = count_some T.tasks ((and_parts A B counts).0);
       tasks = most;
-      some_gate = count_some T.gates (and_right A B counts);
-      gates = count_most T.gates (and_right A B counts);
+      some_gate = count_some T.gates ((and_parts A B counts).1);
+      gates = count_most T.gates ((and_parts A B counts).1);
       states = λ t l. states_le (ltb t T.tasks) (get_or T.states t 0) (get_or T.starts t 0) (task t l);
       start = λ t l. start_of T t (task t (omega arith)) l;
-      no_states = λ t l k. eqb-true _ _ (and_left _ _ (absent T t (task t l) k));
-      no_start = λ t l k. eqb-true _ _ (and_right (eqb (get_or T.states t 0) 0) _ (absent T t (task t l) k));
-      moves = move_of_lem T (and_left D E last);
+      no_states = λ t l k. eqb-true _ _ ((and_parts _ _ (absent T t (task t l) k)).0);
+      no_start = λ t l k. eqb-true _ _ ((and_parts (eqb (get_or T.states t 0) 0) _ (absent T t (task t l) k)).1);
+      moves = move_of_lem T ((and_parts D E last).0);
       vectors = λ g l. at_most T g (gate g l);
       no_vectors = λ g l. none T g (gate g l);
       mask = λ g v l. mask_some T g (gate g l) v;
-      members = λ g v l k. and_left _ _ (mask_rest T g (gate g l) v k);
+      members = λ g v l k. (and_parts _ _ (mask_rest T g (gate g l) v k)).0;
       new_mask = λ g v w l k. mask_new T g (gate g l) v k w;
       no_mask = λ g v l. mask_none T g (gate g l) v;
     }
@@ -162,7 +163,7 @@ inside true true n most h l = (refl, (refl, h))
 inside true false n most h l = absurd (omega arith)
 inside false b n most h l = absurd (omega arith)
 
-pub move_leads : (T : Table) → Rules T → (t x g y : ℕ) → move_of T.moves t x g ≡ To y → Leads T t x g y
+pub move_leads : (T : Table) → Rules T → (t x g y : ℕ) → move_of T.moves t x g ≡ Some y → Leads T t x g y
 move_leads T p t x g y e = ⊎_elim
     (λ (r : is_cell t x g ≡ true).
     let c : InRoom t x g = in_room t x g r in
@@ -177,4 +178,4 @@ move_leads T p t x g y e = ⊎_elim
       target = omega (arith, i.1.1);
     })
     (λ (r : is_cell t x g ≡ false). absurd (omega (arith, ap entry_of (rw r at e))))
-    (true_or_false (is_cell t x g))
+    (cases_Bool (is_cell t x g))

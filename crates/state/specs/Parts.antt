@@ -23,7 +23,7 @@ with_across p b c = with_all_across p (set p.across b c)
 abbrev pub moved_up : List Request → List Request
 moved_up l = drop 1 l ++ no_request ∷ []
 
-abbrev pub put_of : State → Link → Message → Put
-put_of s (ToGate t g) m = let p = put_up (task_of s t.0) g.0 m in record { state = with_task s t.0 p.task; room = p.room }
-put_of s (FromGate g t) m = let p = put_down (gate_of s g.0) t.0 m in record { state = with_gate s g.0 p.gate; room = p.room }
-put_of s (ToTask t b) m = let p = put_across (task_of s t.0) b.0 m in record { state = with_task s t.0 p.task; room = p.room }
+abbrev pub put_of : State → Link → Message → Put State
+put_of s (ToGate t g) m = let p = put_up (task_of s t.0) g.0 m in record { after = with_task s t.0 p.after; room = p.room }
+put_of s (FromGate g t) m = let p = put_down (gate_of s g.0) t.0 m in record { after = with_gate s g.0 p.after; room = p.room }
+put_of s (ToTask t b) m = let p = put_across (task_of s t.0) b.0 m in record { after = with_task s t.0 p.after; room = p.room }

@@ -1,6 +1,6 @@
 -- "The state": its parts, and the state with one part changed.
-use Rattle.std.specs.Prelude.{ℕ, ◌+◌, ◌-◌, cond, List, [], ◌∷◌, ◌++◌, eqb, ltb, get_or, set, drop, replicate}
-use Rattle.channels.specs.Channels.{no_request, empty1, empty3, popped3, put1, put3}
+use Rattle.std.specs.Prelude.{ℕ, ◌+◌, ◌-◌, cond, List, [], ◌∷◌, ◌++◌, ltb, get_or, set, drop, replicate}
+use Rattle.channels.specs.Channels.{no_request, front_of, empty1, empty3, popped3, put1, put3}
 use Rattle.channels.specs.declared.Request.{Request}
 use Rattle.channels.specs.declared.Message.{Message}
 use Rattle.channels.specs.declared.Channel1.{Channel1}
@@ -13,13 +13,8 @@ use Rattle.state.specs.declared.Gate.{Gate}
 use Rattle.state.specs.declared.State.{State}
 use Rattle.state.specs.declared.Link.{Link}
 use Rattle.state.specs.declared.Link.TheVariants.{ToGate, FromGate, ToTask}
-use Rattle.state.specs.declared.Front.{Front}
-use Rattle.state.specs.declared.Front.TheVariants.{Nothing, Oldest}
-use Rattle.state.specs.declared.PoppedTask.{PoppedTask}
-use Rattle.state.specs.declared.PoppedGate.{PoppedGate}
 use Rattle.state.specs.declared.Popped.{Popped}
-use Rattle.state.specs.declared.PutTask.{PutTask}
-use Rattle.state.specs.declared.PutGate.{PutGate}
+use Rattle.state.specs.declared.Put.{Put}
 
 -- "An empty task is at state 0, Free, nothing waiting"
 abbrev pub empty_task : Task
@@ -91,32 +86,28 @@ with_last p r = cond (ltb p.count 16) (with_waiting p (p.count + 1) (set p.waiti
 abbrev pub without_front : Task → Task
 without_front p = with_waiting p (p.count - 1) (drop 1 p.waiting ++ no_request ∷ [])
 
--- "It takes the oldest message of the channel named": the front of a channel of n messages, the first of them m
-abbrev pub front_of : ℕ → Message → Front
-front_of n m = cond (eqb n 0) Nothing (Oldest m)
-
 -- a party without the oldest message of a channel, and that message; a number outside 16 finds no channel
-abbrev pub pop_up : Task → ℕ → PoppedTask
-pop_up p g = let c = up_of p g in record { task = with_all_up p (set p.up g (popped3 c)); front = front_of c.count c.first }
+abbrev pub pop_up : Task → ℕ → Popped Task
+pop_up p g = let c = up_of p g in record { after = with_all_up p (set p.up g (popped3 c)); front = front_of c.count c.first }
 
-abbrev pub pop_across : Task → ℕ → PoppedTask
-pop_across p b = let c = across_of p b in record { task = with_all_across p (set p.across b empty1); front = front_of c.count c.first }
+abbrev pub pop_across : Task → ℕ → Popped Task
+pop_across p b = let c = across_of p b in record { after = with_all_across p (set p.across b empty1); front = front_of c.count c.first }
 
-abbrev pub pop_down : Gate → ℕ → PoppedGate
-pop_down k b = let c = down_of k b in record { gate = with_down k b empty1; front = front_of c.count c.first }
+abbrev pub pop_down : Gate → ℕ → Popped Gate
+pop_down k b = let c = down_of k b in record { after = with_down k b empty1; front = front_of c.count c.first }
 
 -- a party with a message put last in a channel, and whether there was room
-abbrev pub put_up : Task → ℕ → Message → PutTask
-put_up p g m = record { task = with_all_up p (set p.up g (put3 (up_of p g) m)); room = ltb (up_of p g).count 3 }
+abbrev pub put_up : Task → ℕ → Message → Put Task
+put_up p g m = record { after = with_all_up p (set p.up g (put3 (up_of p g) m)); room = ltb (up_of p g).count 3 }
 
-abbrev pub put_across : Task → ℕ → Message → PutTask
-put_across p b m = record { task = with_all_across p (set p.across b (put1 (across_of p b) m)); room = ltb (across_of p b).count 1 }
+abbrev pub put_across : Task → ℕ → Message → Put Task
+put_across p b m = record { after = with_all_across p (set p.across b (put1 (across_of p b) m)); room = ltb (across_of p b).count 1 }
 
-abbrev pub put_down : Gate → ℕ → Message → PutGate
-put_down k b m = record { gate = with_down k b (put1 (down_of k b) m); room = ltb (down_of k b).count 1 }
+abbrev pub put_down : Gate → ℕ → Message → Put Gate
+put_down k b m = record { after = with_down k b (put1 (down_of k b) m); room = ltb (down_of k b).count 1 }
 
 -- the state after its party's pop
-abbrev pub pop_of : State → Link → Popped
-pop_of s (ToGate t g) = let p = pop_up (task_of s t.0) g.0 in record { state = with_task s t.0 p.task; front = p.front }
-pop_of s (FromGate g t) = let p = pop_down (gate_of s g.0) t.0 in record { state = with_gate s g.0 p.gate; front = p.front }
-pop_of s (ToTask t b) = let p = pop_across (task_of s t.0) b.0 in record { state = with_task s t.0 p.task; front = p.front }
+abbrev pub pop_of : State → Link → Popped State
+pop_of s (ToGate t g) = let p = pop_up (task_of s t.0) g.0 in record { after = with_task s t.0 p.after; front = p.front }
+pop_of s (FromGate g t) = let p = pop_down (gate_of s g.0) t.0 in record { after = with_gate s g.0 p.after; front = p.front }
+pop_of s (ToTask t b) = let p = pop_across (task_of s t.0) b.0 in record { after = with_task s t.0 p.after; front = p.front }

@@ -2,24 +2,27 @@
 // each party owns what it has sent, and a delivery moves two parties.
 #![tactic(auto)]
 
-ghost use Rattle.std.specs.Prelude.{◌≡◌};
+ghost use Rattle.std.specs.Prelude.{◌≡◌, ltb, get_or, set};
+ghost use Rattle.channels.specs.Channels.{front_of};
 ghost use Rattle.state.specs.States.{empty_task, empty_gate, empty_state, at_state, with_mode, with_all_up, with_all_across, with_last, without_front};
-ghost use Rattle.state.specs.States.{front_of, pop_up, put_up, pop_across, put_across, pop_down, put_down, pop_of};
-ghost use Rattle.state.specs.Parts.{moved_up, put_of};
+ghost use Rattle.state.specs.States.{pop_up, put_up, pop_across, put_across, pop_down, put_down, pop_of};
+ghost use Rattle.state.specs.Parts.{put_of};
 
-use channels::{Channel1, Channel3, Message, Request};
+use channels::{Channel, Channel1, Channel3, Message, Request};
 use numbers::{GateNo, TaskNo};
 use table::Table;
 
-#[derive(Clone, Copy)]
+// The paper names this mode and its cases, and a gate's too (`Deal`); so neither is an `Option`.
+#[derive(Clone, Copy, Debug, PartialEq, Eq)]
 pub enum Mode {
     Free,
     Held(Request),
 }
 
 // The first `count` of `waiting` are the lock requests that wait, the front first. What the task has
-// sent lies in `up` for each gate and in `across` for each task.
-#[derive(Clone, Copy)]
+// sent lies in `up` for each gate and in `across` for each task. Arrays and no `Vec`: memory is fixed,
+// and what is unused holds the paper's filler.
+#[derive(Clone, Copy, Debug, PartialEq, Eq)]
 pub struct Task {
     pub state: u8,
     pub mode: Mode,
@@ -29,21 +32,22 @@ pub struct Task {
     pub across: [Channel1; Table::TASKS],
 }
 
-#[derive(Clone, Copy)]
+#[derive(Clone, Copy, Debug, PartialEq, Eq)]
 pub enum Deal {
     Idle,
     Dealing(u8),
 }
 
 // What the gate has sent lies in `down` for each task.
-#[derive(Clone, Copy)]
+#[derive(Clone, Copy, Debug, PartialEq, Eq)]
 pub struct Gate {
     pub offers: u16,
     pub deal: Deal,
     pub down: [Channel1; Table::TASKS],
 }
 
-#[derive(Clone, Copy)]
+// `logged` counts the entries of a log that lies with the caller.
+#[derive(Clone, Copy, Debug, PartialEq, Eq)]
 pub struct State {
     pub tasks: [Task; Table::TASKS],
     pub gates: [Gate; Table::GATES],
@@ -51,64 +55,51 @@ pub struct State {
 }
 
 // An ordered pair that has a channel.
-#[derive(Clone, Copy)]
+#[derive(Clone, Copy, Debug, PartialEq, Eq)]
 pub enum Link {
     ToGate(TaskNo, GateNo),
     FromGate(GateNo, TaskNo),
     ToTask(TaskNo, TaskNo),
 }
 
-#[derive(Clone, Copy)]
-pub enum Front {
-    Nothing,
-    Oldest(Message),
+// What a pop and a put leave of a task, a gate or the state. The value after a put counts whether there
+// was room or not, since a full channel stays as it is.
+#[derive(Clone, Copy, Debug, PartialEq, Eq)]
+pub struct Popped<T> {
+    pub after: T,
+    pub front: Option<Message>,
 }
 
-// A task, a gate and the state after a pop and after a put.
-#[derive(Clone, Copy)]
-pub struct PoppedTask {
-    pub task: Task,
-    pub front: Front,
-}
-
-#[derive(Clone, Copy)]
-pub struct PoppedGate {
-    pub gate: Gate,
-    pub front: Front,
-}
-
-#[derive(Clone, Copy)]
-pub struct Popped {
-    pub state: State,
-    pub front: Front,
-}
-
-#[derive(Clone, Copy)]
-pub struct PutTask {
-    pub task: Task,
+#[derive(Clone, Copy, Debug, PartialEq, Eq)]
+pub struct Put<T> {
+    pub after: T,
     pub room: bool,
 }
 
-#[derive(Clone, Copy)]
-pub struct PutGate {
-    pub gate: Gate,
-    pub room: bool,
-}
-
-#[derive(Clone, Copy)]
-pub struct Put {
-    pub state: State,
-    pub room: bool,
-}
-
-// The front of a channel that holds so many messages, the first of them this one.
-fn front_of(count: u8, first: Message) -> Front
-    ensures { result ≡ front_of count first }
+// The oldest message of a channel of a list, which leaves it. A number outside the list finds no
+// channel.
+fn pop_at<C: Channel>(list: &mut [C], i: u8) -> Option<Message>
+    ensures front { result ≡ front_of (C.count (get_or list.old i C.empty)) (C.first (get_or list.old i C.empty)) }
+    ensures after { list.new ≡ set list.old i (C.popped (get_or list.old i C.empty)) }
 {
-    if count == 0 {
-        return Front::Nothing;
-    }
-    Front::Oldest(first)
+    let i = i as usize;
+    let channel = *list.get(i)?;
+    list[i] = channel.popped();
+    channel.front()
+}
+
+// Whether a channel of a list has room; the message then comes last in it. A number outside the list
+// finds no channel, and room.
+fn put_at<C: Channel>(list: &mut [C], i: u8, message: Message) -> bool
+    ensures room { result ≡ ltb (C.count (get_or list.old i C.empty)) C.ROOM }
+    ensures after { list.new ≡ set list.old i (C.put (get_or list.old i C.empty) message) }
+{
+    let i = i as usize;
+    let Some(&channel) = list.get(i) else {
+        return true;
+    };
+    list[i] = channel.put(message);
+    channel.has_room()
 }
 
 impl Task {
@@ -134,120 +125,49 @@ impl Task {
     pub fn at_state(self, state: u8) -> Self
         ensures { result ≡ at_state self state }
     {
-        let mode = self.mode;
-        let waiting = self.waiting;
-        let up = self.up;
-        let across = self.across;
-        Task {
-            state,
-            mode,
-            count: self.count,
-            waiting,
-            up,
-            across,
-        }
+        Task { state, ..self }
     }
 
     pub fn with_mode(self, mode: Mode) -> Self
         ensures { result ≡ with_mode self mode }
     {
-        let waiting = self.waiting;
-        let up = self.up;
-        let across = self.across;
-        Task {
-            state: self.state,
-            mode,
-            count: self.count,
-            waiting,
-            up,
-            across,
-        }
+        Task { mode, ..self }
     }
-}
 
-// A task with one of its arrays changed is made field by field: the arrays that stay are then copied
-// once, however many such changes follow each other.
-impl Task {
     pub fn with_all_up(self, up: [Channel3; Table::GATES]) -> Self
         ensures { result ≡ with_all_up self up }
     {
-        let mode = self.mode;
-        let waiting = self.waiting;
-        let across = self.across;
-        Task {
-            state: self.state,
-            mode,
-            count: self.count,
-            waiting,
-            up,
-            across,
-        }
+        Task { up, ..self }
     }
 
     pub fn with_all_across(self, across: [Channel1; Table::TASKS]) -> Self
         ensures { result ≡ with_all_across self across }
     {
-        let mode = self.mode;
-        let waiting = self.waiting;
-        let up = self.up;
-        Task {
-            state: self.state,
-            mode,
-            count: self.count,
-            waiting,
-            up,
-            across,
-        }
+        Task { across, ..self }
     }
-}
 
-impl Task {
     // With a request put last on the waiting list; a full list stays as it is.
     pub fn with_last(mut self, request: Request) -> Self
         ensures { result ≡ with_last self request }
     {
-        let n = self.count;
-        let i = n as usize;
-        if i < Task::WAITING {
-            self.waiting[i] = request;
-            self.count = n + 1;
-            return self;
+        let n = self.count as usize;
+        if n < Task::WAITING {
+            self.waiting[n] = request;
+            self.count += 1;
         }
         self
     }
 
-    // Without the front of the waiting list.
-    pub fn without_front(self) -> Self
+    // Without the front of the waiting list; the filler comes last.
+    #[tactic(auto, using(laws::proofs::Shifts::last_replaced))]
+    pub fn without_front(mut self) -> Self
         ensures { result ≡ without_front self }
     {
-        let list = self.waiting;
-        let waiting = moved_up(list);
-        let mode = self.mode;
-        let up = self.up;
-        let across = self.across;
-        Task {
-            state: self.state,
-            mode,
-            count: channels::one_less(self.count),
-            waiting,
-            up,
-            across,
-        }
+        self.waiting.rotate_left(1);
+        self.waiting[Task::WAITING - 1] = channels::no_request();
+        self.count = self.count.saturating_sub(1);
+        self
     }
-}
-
-// Each request of a waiting list moves up by one, and the filler comes last.
-fn moved_up(list: [Request; Task::WAITING]) -> [Request; Task::WAITING]
-    ensures { result ≡ moved_up list }
-{
-    let mut moved = list;
-    let mut i: usize = 0;
-    while i < Task::WAITING - 1 {
-        moved[i] = moved[i + 1];
-        i += 1;
-    }
-    moved[Task::WAITING - 1] = channels::no_request();
-    moved
 }
 
 impl Gate {
@@ -279,233 +199,98 @@ impl State {
 
 // What a party has sent. A pop takes the oldest message, and the filler comes back in its place; a
 // put finds room or leaves a full channel as it is. A number outside 16 finds no channel.
+// A task is made anew with its list changed: the arrays that stay are then copied once, however many
+// such changes follow each other.
 impl Task {
-    pub fn pop_up(self, gate: GateNo) -> PoppedTask
+    pub fn pop_up(self, gate: GateNo) -> Popped<Task>
         ensures { result ≡ pop_up self gate.0 }
     {
-        let i = gate.0 as usize;
-        if i < Table::GATES {
-            let mut up = self.up;
-            let channel = up[i];
-            let first = channel.first;
-            let front = front_of(channel.count, first);
-            let rest = channel.popped();
-            up[i] = rest;
-            let task = self.with_all_up(up);
-            return PoppedTask { task, front };
-        }
-        PoppedTask {
-            task: self,
-            front: Front::Nothing,
-        }
+        let mut up = self.up;
+        let front = pop_at(&mut up, gate.0);
+        let after = self.with_all_up(up);
+        Popped { after, front }
     }
 
-    pub fn put_up(self, gate: GateNo, message: Message) -> PutTask
+    pub fn put_up(self, gate: GateNo, message: Message) -> Put<Task>
         ensures { result ≡ put_up self gate.0 message }
     {
-        let i = gate.0 as usize;
-        if i < Table::GATES {
-            let mut up = self.up;
-            let channel = up[i];
-            let room = channel.count < 3;
-            let longer = channel.put(message);
-            up[i] = longer;
-            let task = self.with_all_up(up);
-            return PutTask { task, room };
-        }
-        PutTask {
-            task: self,
-            room: true,
-        }
+        let mut up = self.up;
+        let room = put_at(&mut up, gate.0, message);
+        let after = self.with_all_up(up);
+        Put { after, room }
     }
 
-    pub fn pop_across(self, to: TaskNo) -> PoppedTask
+    pub fn pop_across(self, to: TaskNo) -> Popped<Task>
         ensures { result ≡ pop_across self to.0 }
     {
-        let i = to.0 as usize;
-        if i < Table::TASKS {
-            let mut across = self.across;
-            let channel = across[i];
-            let first = channel.first;
-            let front = front_of(channel.count, first);
-            let rest = Channel1::empty();
-            across[i] = rest;
-            let task = self.with_all_across(across);
-            return PoppedTask { task, front };
-        }
-        PoppedTask {
-            task: self,
-            front: Front::Nothing,
-        }
+        let mut across = self.across;
+        let front = pop_at(&mut across, to.0);
+        let after = self.with_all_across(across);
+        Popped { after, front }
     }
 
-    pub fn put_across(self, to: TaskNo, message: Message) -> PutTask
+    pub fn put_across(self, to: TaskNo, message: Message) -> Put<Task>
         ensures { result ≡ put_across self to.0 message }
     {
-        let i = to.0 as usize;
-        if i < Table::TASKS {
-            let mut across = self.across;
-            let channel = across[i];
-            let room = channel.count < 1;
-            let longer = channel.put(message);
-            across[i] = longer;
-            let task = self.with_all_across(across);
-            return PutTask { task, room };
-        }
-        PutTask {
-            task: self,
-            room: true,
-        }
+        let mut across = self.across;
+        let room = put_at(&mut across, to.0, message);
+        let after = self.with_all_across(across);
+        Put { after, room }
     }
 }
 
 impl Gate {
-    pub fn pop_down(mut self, task: TaskNo) -> PoppedGate
+    pub fn pop_down(mut self, task: TaskNo) -> Popped<Gate>
         ensures { result ≡ pop_down self task.0 }
     {
-        let i = task.0 as usize;
-        if i < Table::TASKS {
-            let channel = self.down[i];
-            let first = channel.first;
-            let front = front_of(channel.count, first);
-            let rest = Channel1::empty();
-            self.down[i] = rest;
-            return PoppedGate { gate: self, front };
-        }
-        PoppedGate {
-            gate: self,
-            front: Front::Nothing,
-        }
+        let front = pop_at(&mut self.down, task.0);
+        Popped { after: self, front }
     }
 
-    pub fn put_down(mut self, task: TaskNo, message: Message) -> PutGate
+    pub fn put_down(mut self, task: TaskNo, message: Message) -> Put<Gate>
         ensures { result ≡ put_down self task.0 message }
     {
-        let i = task.0 as usize;
-        if i < Table::TASKS {
-            let channel = self.down[i];
-            let room = channel.count < 1;
-            let longer = channel.put(message);
-            self.down[i] = longer;
-            return PutGate { gate: self, room };
-        }
-        PutGate {
-            gate: self,
-            room: true,
-        }
+        let room = put_at(&mut self.down, task.0, message);
+        Put { after: self, room }
     }
 }
 
 impl State {
     // The oldest message of a channel, and the state without it.
-    pub fn pop(mut self, link: Link) -> Popped
+    pub fn pop(mut self, link: Link) -> Popped<State>
         ensures { result ≡ pop_of self link }
     {
-        match link {
-            Link::ToGate(t, g) => {
-                let i = t.0 as usize;
-                if i < Table::TASKS {
-                    let task = self.tasks[i];
-                    let popped = task.pop_up(g);
-                    let task = popped.task;
-                    let front = popped.front;
-                    self.tasks[i] = task;
-                    return Popped { state: self, front };
-                }
-                Popped {
-                    state: self,
-                    front: Front::Nothing,
-                }
+        let front = match link {
+            Link::ToGate(t, g) if (t.0 as usize) < Table::TASKS => {
+                pop_at(&mut self.tasks[t.0 as usize].up, g.0)
             }
-            Link::FromGate(g, t) => {
-                let i = g.0 as usize;
-                if i < Table::GATES {
-                    let gate = self.gates[i];
-                    let popped = gate.pop_down(t);
-                    let gate = popped.gate;
-                    let front = popped.front;
-                    self.gates[i] = gate;
-                    return Popped { state: self, front };
-                }
-                Popped {
-                    state: self,
-                    front: Front::Nothing,
-                }
+            Link::FromGate(g, t) if (g.0 as usize) < Table::GATES => {
+                pop_at(&mut self.gates[g.0 as usize].down, t.0)
             }
-            Link::ToTask(t, b) => {
-                let i = t.0 as usize;
-                if i < Table::TASKS {
-                    let task = self.tasks[i];
-                    let popped = task.pop_across(b);
-                    let task = popped.task;
-                    let front = popped.front;
-                    self.tasks[i] = task;
-                    return Popped { state: self, front };
-                }
-                Popped {
-                    state: self,
-                    front: Front::Nothing,
-                }
+            Link::ToTask(t, b) if (t.0 as usize) < Table::TASKS => {
+                pop_at(&mut self.tasks[t.0 as usize].across, b.0)
             }
-        }
+            _ => None,
+        };
+        Popped { after: self, front }
     }
 
     // A message put last in a channel; a full channel stays as it is, and room is false.
-    pub fn put(mut self, link: Link, message: Message) -> Put
+    pub fn put(mut self, link: Link, message: Message) -> Put<State>
         ensures { result ≡ put_of self link message }
     {
-        match link {
-            Link::ToGate(t, g) => {
-                let i = t.0 as usize;
-                if i < Table::TASKS {
-                    let task = self.tasks[i];
-                    let put = task.put_up(g, message);
-                    let task = put.task;
-                    self.tasks[i] = task;
-                    return Put {
-                        state: self,
-                        room: put.room,
-                    };
-                }
-                Put {
-                    state: self,
-                    room: true,
-                }
+        let room = match link {
+            Link::ToGate(t, g) if (t.0 as usize) < Table::TASKS => {
+                put_at(&mut self.tasks[t.0 as usize].up, g.0, message)
             }
-            Link::FromGate(g, t) => {
-                let i = g.0 as usize;
-                if i < Table::GATES {
-                    let gate = self.gates[i];
-                    let put = gate.put_down(t, message);
-                    let gate = put.gate;
-                    self.gates[i] = gate;
-                    return Put {
-                        state: self,
-                        room: put.room,
-                    };
-                }
-                Put {
-                    state: self,
-                    room: true,
-                }
+            Link::FromGate(g, t) if (g.0 as usize) < Table::GATES => {
+                put_at(&mut self.gates[g.0 as usize].down, t.0, message)
             }
-            Link::ToTask(t, b) => {
-                let i = t.0 as usize;
-                if i < Table::TASKS {
-                    let task = self.tasks[i];
-                    let put = task.put_across(b, message);
-                    let task = put.task;
-                    self.tasks[i] = task;
-                    return Put {
-                        state: self,
-                        room: put.room,
-                    };
-                }
-                Put {
-                    state: self,
-                    room: true,
-                }
+            Link::ToTask(t, b) if (t.0 as usize) < Table::TASKS => {
+                put_at(&mut self.tasks[t.0 as usize].across, b.0, message)
             }
-        }
+            _ => true,
+        };
+        Put { after: self, room }
     }
 }

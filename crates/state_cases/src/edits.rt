@@ -8,171 +8,112 @@ use table::Table;
 // The bytes of an edit.
 pub const SIZE: usize = 16;
 
-const STATE: u8 = 1;
-
-const MODE: u8 = 2;
-
-const WAITING_COUNT: u8 = 3;
-
-const WAITING: u8 = 4;
-
-const UP: u8 = 5;
-
-const ACROSS: u8 = 6;
-
-const OFFERS: u8 = 7;
-
-const DEAL: u8 = 8;
-
-const DOWN: u8 = 9;
-
-const LOGGED: u8 = 10;
-
-const COUNTS: u8 = 11;
-
-const TASK: u8 = 12;
-
-const CELL: u8 = 13;
-
-const VECTORS: u8 = 14;
-
-const MASK: u8 = 15;
-
-// The state with each of so many edits.
-pub fn state(s: State, edits: &[u8], count: u8) -> State {
-    let mut s = s;
-    let mut i: u8 = 0;
-    while i < count {
-        s = with_state_edit(s, edit_at(edits, i));
-        i += 1;
-    }
-    s
+// The part that an edit sets.
+#[derive(Clone, Copy, Debug, PartialEq, Eq)]
+enum Part {
+    State,
+    Mode,
+    WaitingCount,
+    Waiting,
+    Up,
+    Across,
+    Offers,
+    Deal,
+    Down,
+    Logged,
+    Counts,
+    Task,
+    Cell,
+    Vectors,
+    Mask,
 }
 
-// The table with each of so many edits.
-pub fn table(table: Table, edits: &[u8], count: u8) -> Table {
-    let mut table = table;
-    let mut i: u8 = 0;
-    while i < count {
-        table = with_table_edit(table, edit_at(edits, i));
-        i += 1;
+impl TryFrom<u8> for Part {
+    type Error = u8;
+
+    fn try_from(number: u8) -> Result<Self, u8> {
+        match number {
+            1 => Ok(Part::State),
+            2 => Ok(Part::Mode),
+            3 => Ok(Part::WaitingCount),
+            4 => Ok(Part::Waiting),
+            5 => Ok(Part::Up),
+            6 => Ok(Part::Across),
+            7 => Ok(Part::Offers),
+            8 => Ok(Part::Deal),
+            9 => Ok(Part::Down),
+            10 => Ok(Part::Logged),
+            11 => Ok(Part::Counts),
+            12 => Ok(Part::Task),
+            13 => Ok(Part::Cell),
+            14 => Ok(Part::Vectors),
+            15 => Ok(Part::Mask),
+            _ => Err(number),
+        }
+    }
+}
+
+// The table and the state with each of the edits. One whose part there is not does nothing.
+pub fn edited(mut table: Table, mut state: State, edits: &[[u8; SIZE]]) -> (Table, State) {
+    for edit in edits {
+        if let Ok(part) = Part::try_from(edit[0]) {
+            table = with_table_edit(table, part, *edit);
+            state = with_state_edit(state, part, *edit);
+        }
+    }
+    (table, state)
+}
+
+fn with_state_edit(mut state: State, part: Part, edit: [u8; SIZE]) -> State {
+    let i = usize::from(edit[1]);
+    if part == Part::Logged {
+        state.logged = usize::from(u16::from_le_bytes([edit[2], edit[3]]));
+    } else if i < 16 {
+        state.tasks[i] = with_task_edit(state.tasks[i], part, edit);
+        state.gates[i] = with_gate_edit(state.gates[i], part, edit);
+    }
+    state
+}
+
+fn with_task_edit(mut task: Task, part: Part, edit: [u8; SIZE]) -> Task {
+    let i = usize::from(edit[2]);
+    match part {
+        Part::State => task.state = edit[2],
+        Part::Mode => task.mode = mode_of(edit[2], edit[3], edit[4]),
+        Part::WaitingCount => task.count = edit[2],
+        Part::Waiting if i < task.waiting.len() => task.waiting[i] = request_of(edit[3], edit[4]),
+        Part::Up if i < task.up.len() => task.up[i] = three_of(edit),
+        Part::Across if i < task.across.len() => task.across[i] = one_of(edit),
+        _ => {}
+    }
+    task
+}
+
+fn with_gate_edit(mut gate: Gate, part: Part, edit: [u8; SIZE]) -> Gate {
+    let i = usize::from(edit[2]);
+    match part {
+        Part::Offers => gate.offers = u16::from_le_bytes([edit[2], edit[3]]),
+        Part::Deal => gate.deal = deal_of(edit[2], edit[3]),
+        Part::Down if i < gate.down.len() => gate.down[i] = one_of(edit),
+        _ => {}
+    }
+    gate
+}
+
+fn with_table_edit(mut table: Table, part: Part, edit: [u8; SIZE]) -> Table {
+    let i = usize::from(edit[1]);
+    let cell = usize::from(u16::from_le_bytes([edit[1], edit[2]]));
+    match part {
+        Part::Counts => table = table.with_counts(edit[1], edit[2]),
+        Part::Task => table = table.with_states(TaskNo(edit[1]), edit[2], edit[3]),
+        Part::Cell if cell < table.moves.len() => table.moves[cell] = edit[3],
+        Part::Vectors if i < table.vectors.len() => table.vectors[i] = edit[2],
+        Part::Mask if i < table.masks.len() => {
+            table.masks[i] = u16::from_le_bytes([edit[2], edit[3]]);
+        }
+        _ => {}
     }
     table
-}
-
-fn edit_at(edits: &[u8], i: u8) -> [u8; SIZE] {
-    let mut edit = [0u8; SIZE];
-    for k in 0..SIZE {
-        edit[k] = reads::byte(edits, i as usize * SIZE + k);
-    }
-    edit
-}
-
-fn with_state_edit(mut s: State, e: [u8; SIZE]) -> State {
-    let i = e[1] as usize;
-    if e[0] == LOGGED {
-        s.logged = half(e[2], e[3]) as usize;
-        return s;
-    }
-    if i < 16 {
-        let p = s.tasks[i];
-        let k = s.gates[i];
-        let task = with_task_edit(p, e);
-        let gate = with_gate_edit(k, e);
-        s.tasks[i] = task;
-        s.gates[i] = gate;
-        return s;
-    }
-    s
-}
-
-fn with_task_edit(mut p: Task, e: [u8; SIZE]) -> Task {
-    let i = e[2] as usize;
-    match e[0] {
-        STATE => p.at_state(e[2]),
-        MODE => p.with_mode(mode_of(e[2], e[3], e[4])),
-        WAITING_COUNT => {
-            p.count = e[2];
-            p
-        }
-        WAITING => {
-            if i < 16 {
-                p.waiting[i] = request_of(e[3], e[4]);
-            }
-            p
-        }
-        UP => {
-            if i < 16 {
-                p.up[i] = three_of(e);
-            }
-            p
-        }
-        ACROSS => {
-            if i < 16 {
-                p.across[i] = one_of(e);
-            }
-            p
-        }
-        _ => p,
-    }
-}
-
-fn with_gate_edit(mut k: Gate, e: [u8; SIZE]) -> Gate {
-    let i = e[2] as usize;
-    match e[0] {
-        OFFERS => {
-            k.offers = half(e[2], e[3]);
-            k
-        }
-        DEAL => {
-            let down = k.down;
-            let deal = deal_of(e[2], e[3]);
-            Gate {
-                offers: k.offers,
-                deal,
-                down,
-            }
-        }
-        DOWN => {
-            if i < 16 {
-                k.down[i] = one_of(e);
-            }
-            k
-        }
-        _ => k,
-    }
-}
-
-fn with_table_edit(mut table: Table, e: [u8; SIZE]) -> Table {
-    let i = e[1] as usize;
-    let cell = half(e[1], e[2]) as usize;
-    match e[0] {
-        COUNTS => table.with_counts(e[1], e[2]),
-        TASK => table.with_states(TaskNo(e[1]), e[2], e[3]),
-        CELL => {
-            if cell < 4096 {
-                table.moves[cell] = e[3];
-            }
-            table
-        }
-        VECTORS => {
-            if i < 16 {
-                table.vectors[i] = e[2];
-            }
-            table
-        }
-        MASK => {
-            if i < 128 {
-                table.masks[i] = half(e[2], e[3]);
-            }
-            table
-        }
-        _ => table,
-    }
-}
-
-fn half(low: u8, high: u8) -> u16 {
-    low as u16 + high as u16 * 256
 }
 
 fn request_of(gate: u8, vector: u8) -> Request {
@@ -182,22 +123,23 @@ fn request_of(gate: u8, vector: u8) -> Request {
     }
 }
 
-fn one_of(e: [u8; SIZE]) -> Channel1 {
+fn one_of(edit: [u8; SIZE]) -> Channel1 {
     Channel1 {
-        count: e[3],
-        first: message_of(e[4], e[5], e[6]),
+        count: edit[3],
+        first: message_of(edit[4], edit[5], edit[6]),
     }
 }
 
-fn three_of(e: [u8; SIZE]) -> Channel3 {
+fn three_of(edit: [u8; SIZE]) -> Channel3 {
     Channel3 {
-        count: e[3],
-        first: message_of(e[4], e[5], e[6]),
-        second: message_of(e[7], e[8], e[9]),
-        third: message_of(e[10], e[11], e[12]),
+        count: edit[3],
+        first: message_of(edit[4], edit[5], edit[6]),
+        second: message_of(edit[7], edit[8], edit[9]),
+        third: message_of(edit[10], edit[11], edit[12]),
     }
 }
 
+// A kind is matched here and nowhere else, so it has no enum of its own.
 fn message_of(kind: u8, gate: u8, vector: u8) -> Message {
     match kind {
         0 => Message::Ready,

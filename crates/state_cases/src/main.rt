@@ -7,19 +7,14 @@
 #![tactic(auto)]
 
 mod edits;
-mod same;
 
-ghost use Rattle.std.specs.Prelude.{◌≤◌, ◌<◌, IfOk, length};
+ghost use Rattle.std.specs.Prelude.{◌<◌, IfSome, length};
 
-use delivery::Delivered;
 use state::State;
 use std::io;
 use table::Table;
 
 const INPUT: usize = 65536;
-
-// The bytes of a case's head.
-const HEAD: usize = 8;
 
 // The longest log.
 const LOG: usize = 8;
@@ -27,125 +22,77 @@ const LOG: usize = 8;
 // What a byte of the log is before the delivery, and no entry has.
 const UNWRITTEN: u8 = 255;
 
+#[derive(Clone, Copy, Debug)]
+struct Case<'a> {
+    name: &'a [u8],
+    file: &'a [u8],
+    deliveries: &'a [[u8; 2]],
+    edits: &'a [[u8; edits::SIZE]],
+    log: usize,
+    from: u8,
+    to: u8,
+}
+
 fn main(rt: HostRuntime) -> io::Result<()> {
     let mut input = [0u8; INPUT];
     let n = stream::fill(&mut rt.stdin(), &mut input);
-    run(&rt, &input[..n])
-}
-
-// A case that is cut off ends the run.
-fn run(rt: &impl Print, input: &[u8]) -> io::Result<()> {
-    let mut at = 0;
-    while at < input.len() {
-        let size = one(rt, &input[at..])?;
-        if size == 0 {
-            return Ok(());
-        }
-        at += size;
+    let mut rest = &input[..n];
+    // Each program of cases has this loop: one for all would ask something of the closure that it calls.
+    while let Some((case, behind)) = case_of(rest) {
+        judge(&rt, case)?;
+        rest = behind;
     }
     Ok(())
 }
 
-// Runs the case that `rest` begins with, and answers how many bytes it has, or 0 where it is cut off.
-fn one(rt: &impl Print, rest: &[u8]) -> io::Result<usize>
-    ensures { IfOk result (λ size. size ≤ length rest.now) }
+// The case that `rest` begins with, and what stands behind it. None where it is cut off.
+fn case_of(rest: &[u8]) -> Option<(Case<'_>, &[u8])>
+    ensures { IfSome result (λ p. length p.1.now < length rest.now) }
 {
-    let name = HEAD + wide(rest, 0);
-    let file = name + wide(rest, 1) + wide(rest, 2) * 256;
-    let deliveries = file + wide(rest, 3) * 2;
-    let end = deliveries + wide(rest, 4) * edits::SIZE;
-    if rest.len() < end {
-        return Ok(0);
-    }
-    rt.write_all(&rest[HEAD..name])?;
-    judge(
-        rt,
-        rest,
-        &rest[name..file],
-        &rest[file..deliveries],
-        &rest[deliveries..end],
-    )?;
-    Ok(end)
-}
-
-fn wide(list: &[u8], i: usize) -> usize
-    ensures { result < 256 }
-{
-    reads::byte(list, i) as usize
+    let (&[name, low, high, deliveries, by_hand, log, from, to], rest) = rest.split_first_chunk::<
+        8,
+    >()?;
+    let (name, rest) = rest.split_at_checked(usize::from(name))?;
+    let (file, rest) = rest.split_at_checked(usize::from(u16::from_le_bytes([low, high])))?;
+    let (deliveries, rest) = rest.split_at_checked(usize::from(deliveries) * 2)?;
+    let (by_hand, rest) = rest.split_at_checked(usize::from(by_hand) * edits::SIZE)?;
+    let (deliveries, _) = deliveries.as_chunks::<2>();
+    let (edits, _) = by_hand.as_chunks::<{ edits::SIZE }>();
+    let case = Case {
+        name,
+        file,
+        deliveries,
+        edits,
+        log: usize::from(log),
+        from,
+        to,
+    };
+    Some((case, rest))
 }
 
 // Builds the line, makes the delivery and prints what came of it.
-fn judge(
-    rt: &impl Print,
-    head: &[u8],
-    file: &[u8],
-    deliveries: &[u8],
-    by_hand: &[u8],
-) -> io::Result<()> {
-    let count = reads::byte(head, 4);
-    let loaded = reader::read(file);
-    let good = loaded.table;
-    let table = edits::table(good, by_hand, count);
-    let s = edits::state(
-        after(good, deliveries, reads::byte(head, 3)),
-        by_hand,
-        count,
-    );
+fn judge(rt: &impl Print, case: Case<'_>) -> io::Result<()> {
+    let loaded = reader::read(case.file);
+    let built = after(loaded.table, case.deliveries);
+    let (table, s) = edits::edited(loaded.table, built, case.edits);
     let mut log = [UNWRITTEN; LOG];
-    let delivered = on_part(
-        table,
-        s,
-        &mut log,
-        wide(head, 5),
-        reads::byte(head, 6),
-        reads::byte(head, 7),
-    );
-    let answer = delivered.answer;
-    let left = delivered.state;
-    print!(rt; ": answer {}", answers::number(answer))?;
-    if same::states(s, left) & is_unwritten(&log) {
-        println!(rt; " unchanged")
+    let size = case.log.min(LOG);
+    let delivered = delivery::deliver(table, s, &mut log[..size], case.from, case.to);
+    let change = if delivered.state == s && log == [UNWRITTEN; LOG] {
+        "unchanged"
     } else {
-        println!(rt; " changed")
-    }
+        "changed"
+    };
+    rt.write_all(case.name)?;
+    println!(rt; ": answer {} {change}", answers::number(delivered.answer))
 }
 
-// Fresh, then so many deliveries.
-fn after(table: Table, deliveries: &[u8], count: u8) -> State {
-    let started = fresh::fresh(table);
-    let mut s = started.state;
-    let mut i: u8 = 0;
-    while i < count {
-        let at = i as usize * 2;
-        s = delivered(
-            table,
-            s,
-            reads::byte(deliveries, at),
-            reads::byte(deliveries, at + 1),
-        );
-        i += 1;
+// Fresh, then each of these deliveries.
+fn after(table: Table, deliveries: &[[u8; 2]]) -> State {
+    let mut s = fresh::fresh(table).state;
+    for [from, to] in deliveries {
+        let mut log = [UNWRITTEN; LOG];
+        s = delivery::deliver(table, s, &mut log, *from, *to).state;
     }
     s
-}
-
-fn delivered(table: Table, s: State, from: u8, to: u8) -> State {
-    let mut log = [UNWRITTEN; LOG];
-    let delivered = delivery::deliver(table, s, &mut log, from, to);
-    delivered.state
-}
-
-// Delivers with the first `size` bytes of the log, or all.
-fn on_part(table: Table, s: State, log: &mut [u8], size: usize, from: u8, to: u8) -> Delivered {
-    if size < log.len() {
-        return delivery::deliver(table, s, &mut log[..size], from, to);
-    }
-    delivery::deliver(table, s, log, from, to)
-}
-
-fn is_unwritten(log: &[u8; LOG]) -> bool {
-    let mut ok = true;
-    for i in 0..LOG {
-        ok = (log[i] == UNWRITTEN) & ok;
-    }
-    ok
 }

@@ -1,9 +1,7 @@
 -- What the parts of a table are, and a table with one more record.
-use Rattle.std.specs.Prelude.{ℕ, ◌+◌, ◌-◌, ◌*◌, Bool, true, false, cond, ◌&&◌, not, List, eqb, ltb, leb, get_or, set, replicate}
+use Rattle.std.specs.Prelude.{ℕ, ◌+◌, ◌-◌, ◌*◌, Bool, true, false, cond, ◌&&◌, not, List, eqb, ltb, leb, get_or, set, replicate, Option, Some, None}
 use Rattle.laws.specs.Below.{all_below}
 use Rattle.table.specs.declared.Table.{Table}
-use Rattle.table.specs.declared.Move.{Move}
-use Rattle.table.specs.declared.Move.TheVariants.{Nowhere, To}
 
 -- a table by its parts: of each task its states and start, the cells, of each gate how many vectors, and their masks
 abbrev pub table_of : ℕ → ℕ → List ℕ → List ℕ → List ℕ → List ℕ → List ℕ → Table
@@ -26,16 +24,16 @@ abbrev pub cell_of : ℕ → ℕ → ℕ → ℕ
 cell_of t x g = (t * 16 + x) * 16 + g
 
 -- a cell's entry: 0 is no transition, and any other is one more than the state it leads to
-abbrev pub coded : ℕ → Move
-coded n = cond (ltb 0 n) (To (n - 1)) Nowhere
+abbrev pub coded : ℕ → Option ℕ
+coded n = cond (ltb 0 n) (Some (n - 1)) None
 
 -- where task t in state x goes at gate g: "ready at gate g exactly when a transition (t, s, g) exists"
-abbrev pub move_of : List ℕ → ℕ → ℕ → ℕ → Move
-move_of moves t x g = cond (is_cell t x g) (coded (get_or moves (cell_of t x g) 0)) Nowhere
+abbrev pub move_of : List ℕ → ℕ → ℕ → ℕ → Option ℕ
+move_of moves t x g = cond (is_cell t x g) (coded (get_or moves (cell_of t x g) 0)) None
 
-abbrev pub is_move : Move → Bool
-is_move Nowhere = false
-is_move (To y) = true
+abbrev pub is_move : Option ℕ → Bool
+is_move None = false
+is_move (Some y) = true
 
 abbrev pub ready_of : List ℕ → ℕ → ℕ → ℕ → Bool
 ready_of moves t x g = is_move (move_of moves t x g)

@@ -1,4 +1,5 @@
 -- How many log entries work has: sends and announcements add none, and handling a request at most one.
+use Rattle.std.specs.Prelude.{Option, Some, None}
 use Prim.Native.Nat.{ℕ, suc, zero, ◌+◌, ◌≤◌}
 use mathlib.Core.Bool.{Bool, true, false, cond, ◌&&◌, not}
 use mathlib.Core.List.{List}
@@ -7,11 +8,8 @@ use native.Mathlib.Omega.{arith}
 use Rattle.laws.proofs.Tests.{either}
 use Rattle.laws.specs.Turns.{up_to}
 use Rattle.sets.specs.Sets.{member_of, next_above_of}
-use Rattle.sets.specs.declared.Found.{Found}
-use Rattle.sets.specs.declared.Found.TheVariants as found
+use Rattle.numbers.specs.declared.TaskNo.{TaskNo}
 use Rattle.table.specs.Tables.{move_of, ready_of, mask_of}
-use Rattle.table.specs.declared.Move.{Move}
-use Rattle.table.specs.declared.Move.TheVariants.{Nowhere, To}
 use Rattle.channels.specs.Channels.{ends_ready}
 use Rattle.channels.specs.declared.Request.{Request}
 use Rattle.channels.specs.declared.Message.{Message}
@@ -36,13 +34,13 @@ module _ (moves : List ℕ) (gates b : ℕ) where
       turns_fired (announced_at moves gates b w.task.state)
       (λ (g : ℕ) (v : Work). either (λ (x : Work). x.fired ≡ v.fired) (ready_of moves b w.task.state g && not (ends_ready (up_of v.task g))) _ v refl refl) gates w
 
-  pub moved_fired : (to : Move) (w : Work) → (moved_to moves gates b to w).fired ≡ w.fired
-  moved_fired Nowhere w = refl
-  moved_fired (To y) w = announced_fired _
+  pub moved_fired : (to : Option ℕ) (w : Work) → (moved_to moves gates b to w).fired ≡ w.fired
+  moved_fired None w = refl
+  moved_fired (Some y) w = announced_fired _
 
-  accepted_fired : (r : Request) (mask : ℕ) (above : Found) (w : Work) → (accepted moves gates b r mask above w).fired ≤ w.fired + 1
-  accepted_fired r mask (found.Task c) w = omega arith
-  accepted_fired r mask found.Nobody w =
+  accepted_fired : (r : Request) (mask : ℕ) (above : Option TaskNo) (w : Work) → (accepted moves gates b r mask above w).fired ≤ w.fired + 1
+  accepted_fired r mask (Some c) w = omega arith
+  accepted_fired r mask None w =
       let v : Work = sent b mask r.gate.0 (Commit r.gate) (entered w r) in
       let e : v.fired ≡ w.fired + 1 = sent_fired b mask r.gate.0 (Commit r.gate) (entered w r) in
       omega (arith, moved_fired (move_of moves b w.task.state r.gate.0) v, e)

@@ -1,12 +1,9 @@
 -- "At a task": what a message does there.
-use Rattle.std.specs.Prelude.{ℕ, suc, zero, ◌+◌, Bool, true, false, cond, ◌&&◌, not, List, eqb, ltb, get_or, set, replicate}
+use Rattle.std.specs.Prelude.{ℕ, suc, zero, ◌+◌, Bool, true, false, cond, ◌&&◌, not, List, eqb, ltb, get_or, set, replicate, Option, Some, None}
 use Rattle.laws.specs.Turns.{up_to}
 use Rattle.sets.specs.Sets.{member_of, next_above_of}
-use Rattle.sets.specs.declared.Found.{Found}
-use Rattle.sets.specs.declared.Found.TheVariants as found
+use Rattle.numbers.specs.declared.TaskNo.{TaskNo}
 use Rattle.table.specs.Tables.{move_of, ready_of, mask_of}
-use Rattle.table.specs.declared.Move.{Move}
-use Rattle.table.specs.declared.Move.TheVariants.{Nowhere, To}
 use Rattle.channels.specs.Channels.{no_request, ends_ready}
 use Rattle.channels.specs.declared.Request.{Request}
 use Rattle.channels.specs.declared.Message.{Message}
@@ -29,10 +26,10 @@ abbrev pub excluded : Task → Work
 excluded p = record { task = p; ok = false; fired = 0; entries = replicate 16 no_request }
 
 abbrev pub sent_up : Work → ℕ → Message → Work
-sent_up w g m = let put = put_up w.task g m in with w put.task (w.ok && put.room)
+sent_up w g m = let put = put_up w.task g m in with w put.after (w.ok && put.room)
 
 abbrev pub sent_across : Work → ℕ → Message → Work
-sent_across w b m = let put = put_across w.task b m in with w put.task (w.ok && put.room)
+sent_across w b m = let put = put_across w.task b m in with w put.after (w.ok && put.room)
 
 -- "the entry is written after the log's last"
 abbrev pub entered : Work → Request → Work
@@ -67,15 +64,15 @@ module _ (moves : List ℕ) (gates b : ℕ) where
   announced w = up_to (announced_at w.task.state) gates w
 
   -- it moves along its transition, is Free and announces itself
-  abbrev pub moved_to : Move → Work → Work
-  moved_to Nowhere w = w
-  moved_to (To y) w = announced (with w (with_mode (at_state w.task y) Free) w.ok)
+  abbrev pub moved_to : Option ℕ → Work → Work
+  moved_to None w = w
+  moved_to (Some y) w = announced (with w (with_mode (at_state w.task y) Free) w.ok)
 
   -- ready, with a higher task in the vector: "Held, and LOCK to the next higher one"; ready and highest: the entry,
   -- "COMMIT to each lower task, ascending, then to the gate; it moves along its transition and announces itself"
-  abbrev pub accepted : Request → ℕ → Found → Work → Work
-  accepted r mask (found.Task c) w = sent_across (with w (with_mode w.task (Held r)) w.ok) c.0 (Lock r)
-  accepted r mask found.Nobody w =
+  abbrev pub accepted : Request → ℕ → Option TaskNo → Work → Work
+  accepted r mask (Some c) w = sent_across (with w (with_mode w.task (Held r)) w.ok) c.0 (Lock r)
+  accepted r mask None w =
       moved_to (move_of moves b w.task.state r.gate.0) (sent b mask r.gate.0 (Commit r.gate) (entered w r))
 
   -- The masks of the table's vectors.

@@ -1,3 +1,4 @@
 pub mod Decimal
 pub mod Joined
+pub mod Sheets
 pub mod Typing

@@ -1,60 +1,61 @@
-// Text typed into a lent buffer from a place on. Each function gives back the place behind what it
-// typed; a byte that finds no room is left out.
+// Text, typed on a sheet. A byte that finds no room is left out.
 #![tactic(auto)]
 
 ghost use Rattle.std.specs.Prelude.{[], ◌∷◌, ◌++◌, ◌≡◌, ◌≤◌, min, length, take};
-ghost use Rattle.text.specs.Text.{typed, decimal};
+ghost use Rattle.text.specs.Text.{decimal};
+ghost use Rattle.text.specs.Sheets.{with_typed};
 
-pub fn put_byte(text: &mut [u8], at: usize, byte: u8) -> usize
-    ensures bytes { text.new ≡ (typed (byte ∷ []) (record { bytes = text.old; at = at })).bytes }
-    ensures count { result ≡ (typed (byte ∷ []) (record { bytes = text.old; at = at })).at }
-{
-    if at < text.len() {
-        text[at] = byte;
-        at + 1
-    } else {
-        at
+// A lent buffer, and the place where the next byte goes.
+#[derive(Drop)]
+pub struct Sheet<'a> {
+    pub bytes: &'a mut [u8],
+    pub at: usize,
+}
+
+impl Sheet<'_> {
+    #[tactic(auto, unfolding(crate::specs::Sheets::with_typed, crate::specs::Text::typed))]
+    pub fn put_byte(&mut self, byte: u8)
+        ensures { self.new ≡ with_typed (byte ∷ []) self.old }
+    {
+        if self.at < self.bytes.len() {
+            self.bytes[self.at] = byte;
+            self.at += 1;
+        }
+    }
+
+    #[tactic(auto, using(crate::proofs::Sheets::with_none, crate::proofs::Sheets::with_byte))]
+    pub fn put_word(&mut self, word: &[u8])
+        ensures { self.new ≡ with_typed word.now self.old }
+    {
+        for &byte in word {
+            self.put_byte(byte);
+        }
+    }
+
+    #[tactic(auto, using(crate::proofs::Sheets::with_after, crate::proofs::Decimal::decimal_digit, crate::proofs::Decimal::decimal_more))]
+    pub fn put_decimal(&mut self, n: usize)
+        ensures { self.new ≡ with_typed (decimal n) self.old }
+    {
+        if n >= 10 {
+            self.put_decimal(n / 10);
+        }
+        self.put_byte(b'0' + (n % 10) as u8);
+    }
+
+    // A word, and a number behind it.
+    #[tactic(auto, using(crate::proofs::Sheets::with_after))]
+    pub fn put_field(&mut self, word: &[u8], n: usize)
+        ensures { self.new ≡ with_typed (word.now ++ decimal n) self.old }
+    {
+        self.put_word(word);
+        self.put_decimal(n);
     }
 }
 
-pub fn put_word<'a>(text: &'a mut [u8], at: usize, word: &'a [u8]) -> usize
-    ensures bytes { text.new ≡ (typed word.now (record { bytes = text.old; at = at })).bytes }
-    ensures count { result ≡ (typed word.now (record { bytes = text.old; at = at })).at }
-{
-    let mut end = at;
-    let mut i = 0;
-    while i < word.len() {
-        end = put_byte(text, end, word[i]);
-        i += 1;
-    }
-    end
-}
-
-pub fn put_decimal(text: &mut [u8], at: usize, n: usize) -> usize
-    ensures bytes { text.new ≡ (typed (decimal n) (record { bytes = text.old; at = at })).bytes }
-    ensures count { result ≡ (typed (decimal n) (record { bytes = text.old; at = at })).at }
-{
-    if n < 10 {
-        put_byte(text, at, 48 + n as u8)
-    } else {
-        let end = put_decimal(text, at, n / 10);
-        put_byte(text, end, 48 + (n % 10) as u8)
-    }
-}
-
-// A word, and a number behind it.
-pub fn put_field<'a>(text: &'a mut [u8], at: usize, word: &'a [u8], n: usize) -> usize
-    ensures bytes { text.new ≡ (typed (word.now ++ decimal n) (record { bytes = text.old; at = at })).bytes }
-    ensures count { result ≡ (typed (word.now ++ decimal n) (record { bytes = text.old; at = at })).at }
-{
-    let end = put_word(text, at, word);
-    put_decimal(text, end, n)
-}
-
-// Where a text ends that was typed up to a place, so that it can be lent up to there.
+// A place in a text, or its end where it has no such place, so that it can be lent up to there.
 pub fn within(text: &[u8], end: usize) -> usize
     ensures value { result ≡ min end (length text.now) }
     ensures upper_bound { (result ≤ length text.now) × (result ≡ length (take result text.now)) }
 {
-    if end < text.len() { end } else { text.len() }
+    end.min(text.len())
 }

@@ -19,6 +19,6 @@ along-requires c =
     way_within 16 16 x.result y.result
     (end_within x.result (subst InRange (sym x.ensures) (in_range n m a.from)))
     (end_within y.result (subst InRange (sym y.ensures) (in_range n m a.to))) in (
-      subst (WayWithin 16 16) (sym c.in-Along.ensures) known,
+      subst (WayWithin 16 16) (sym c.in-Some.ensures) known,
       count_fits a.table a.s (length a.log.now) (sym c.is_sound.ensures ∙ c.if-not-is_sound.false),
     )

@@ -9,4 +9,4 @@ use Rattle.fresh.proofs.fresh.Goals as goal
 pub loop-t-init : goal.loop-t-init
 loop-t-init c =
     let h : sound_table c.args.table ≡ true = sym c.sound.ensures ∙ c.if-not-sound.false in
-    (search rules, (sound_rules c.args.table h).tasks, c.empty-s.ensures)
+    (search rules, (sound_rules c.args.table h).tasks, c.empty-state.ensures)

@@ -10,4 +10,4 @@ pub returns : goal.returns
 returns c =
     let a = c.args in
     rw (c.with_all_up.ensures, c.at_state.ensures, c.announced-after.ensures)
-    (sym (ap (λ (w : Work). w.task) (announced_apart a.moves.now a.gates a.number.0 (begun (at_state a.task a.start)))))
+    (sym (ap (λ (w : Work). w.task) (announced_apart a.seat.rules.moves.now a.seat.rules.gates a.seat.number.0 (begun (at_state a.task a.start)))))

@@ -12,7 +12,4 @@ fits masks g offers v = subset_of (mask_of masks g v) offers
 
 abbrev pub invariant-loop-v : goal.invariant-loop-v
 invariant-loop-v l =
-    fitting l.masks l.vectors (l.gate.0) l.offers ≡ first_from l.v (l.vectors - l.v) (fits l.masks (l.gate.0) l.offers)
-
-abbrev pub decreases-loop-v : goal.decreases-loop-v
-decreases-loop-v l = l.vectors - l.v
+    fitting l.vectors.masks.now l.vectors.count (l.vectors.gate.0) l.offers ≡ first_from l.v (l.vectors.count - l.v) (fits l.vectors.masks.now (l.vectors.gate.0) l.offers)

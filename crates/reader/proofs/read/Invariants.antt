@@ -4,7 +4,7 @@ use Rattle.reader.proofs.Come.{Come}
 use Rattle.reader.proofs.read.Given as goal
 
 abbrev pub invariant-loop-at : goal.invariant-loop-at
-invariant-loop-at l = Come l.file l.at l.table l.progress
+invariant-loop-at l = Come l.file l.at l.loading
 
 abbrev pub decreases-loop-at : goal.decreases-loop-at
 decreases-loop-at l = length l.file - l.at

@@ -1,13 +1,15 @@
 -- A member that the loop comes to is the first, and one that is passed is not.
-use mathlib.Core.Path.{sym, ◌∙◌}
+use mathlib.Core.Path.{◌∙◌}
 use borrow.Author.Rules.{rules}
-use borrow.Author.Tests.{eq-eqb, ne_eqb}
+use borrow.Author.Tests.{lt-ltb, le-ltb, eq-eqb, ne_eqb}
 use Rattle.laws.proofs.Searches.{first_here, first_further, first_end}
 use Rattle.sets.proofs.first_from.Goals as goal
 
 pub returns-then-set-t-eq1 : goal.returns-then-set-t-eq1
-returns-then-set-t-eq1 c =
-    sym (c.loop-t.invariant.1 ∙ first_here _ _ _ c.loop-t-test.true (eq-eqb _ _ c.if-set-t-eq1.true))
+returns-then-set-t-eq1 c = rw (
+  c.loop-t.invariant.1 ∙ first_here _ _ _ c.loop-t-test.true (eq-eqb _ _ c.if-set-t-eq1.true),
+  lt-ltb _ _ c.loop-t-test.true,
+)
 
 pub loop-t-preserved : goal.loop-t-preserved
 loop-t-preserved c = (
@@ -16,4 +18,4 @@ loop-t-preserved c = (
 )
 
 pub returns : goal.returns
-returns c = sym (c.loop-t.invariant.1 ∙ first_end _ _ _ c.loop-t-test.false)
+returns c = rw (c.loop-t.invariant.1 ∙ first_end _ _ _ c.loop-t-test.false, le-ltb _ _ c.loop-t-test.false)

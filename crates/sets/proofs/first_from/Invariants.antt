@@ -6,6 +6,3 @@ use Rattle.sets.proofs.first_from.Given as goal
 
 abbrev pub invariant-loop-t : goal.invariant-loop-t
 invariant-loop-t l = (l.t ≤ 16) × (first_from l.from (16 - l.from) (member_of l.set) ≡ first_from l.t (16 - l.t) (member_of l.set))
-
-abbrev pub decreases-loop-t : goal.decreases-loop-t
-decreases-loop-t l = 16 - l.t

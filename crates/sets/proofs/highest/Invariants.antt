@@ -6,6 +6,3 @@ use Rattle.sets.proofs.highest.Given as goal
 
 abbrev pub invariant-loop-t : goal.invariant-loop-t
 invariant-loop-t l = (l.t ≤ 16) × (last_below 16 (member_of l.set) 16 ≡ last_below l.t (member_of l.set) 16)
-
-abbrev pub decreases-loop-t : goal.decreases-loop-t
-decreases-loop-t l = l.t

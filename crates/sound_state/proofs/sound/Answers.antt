@@ -1,11 +1,17 @@
--- The tests of all tasks and gates, taken together, are the rules of the state.
-use mathlib.Core.Path.{◌≡◌, ◌∙◌}
+-- The tasks and the gates are tested by their rules.
+use mathlib.Core.Bool.{Bool, ◌&&◌}
+use mathlib.Core.Path.{◌≡◌}
 use native.Mathlib.Omega.{arith}
-use Rattle.sound_state.proofs.Keep.{sound_both}
+use Rattle.std.proofs.lemmas.Grind.{common_steps}
+use Rattle.sound_state.specs.SoundState.{sound_state}
 use Rattle.sound_state.proofs.sound.Goals as goal
 
+both : (a b c d : Bool) → a ≡ c → b ≡ d → (a && b) ≡ (c && d)
+both a b c d p q = rw (p, q)
+
 pub returns : goal.returns
+unfolding sound_state
 returns c =
-    let a = c.args in
-    let e : c.loop-i.i ≡ 16 = omega arith in
-    c.loop-i.invariant ∙ rw e (sound_both a.vectors.now a.masks.now a.tasks a.gates a.states.now a.s)
+    both _ _ _ _
+    (c.every-tasks.ensures _ (grind (arith, common_steps)))
+    (c.every.ensures _ (grind (arith, common_steps)))

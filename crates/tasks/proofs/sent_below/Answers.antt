@@ -1,10 +1,7 @@
 -- A lower task more has its message where it is in the vector; from 16 on there is no member.
-use mathlib.Core.Path.{◌≡◌, ◌∙◌}
-use native.Mathlib.Omega.{arith}
 use borrow.Author.Rules.{rules}
 use Rattle.laws.proofs.Turning.{turn_more}
 use Rattle.sets.proofs.Members.{no_member}
-use Rattle.tasks.specs.Tasks.{sent_below}
 use Rattle.tasks.proofs.sent_below.Goals as goal
 use Rattle.tasks.proofs.sent_below.Goals.{then-i-lt-TASKS+then-member, then-i-lt-TASKS+else-member, else-i-lt-TASKS}
 
@@ -16,7 +13,7 @@ loop-y-preserved c = (
     ← c.loop-y.invariant.1,
   )
       (elim c.if-i-lt-TASKS.branch [
-        | then-i-lt-TASKS+then-member w ↦ rw (w.across-is, w.ok-is, ← w.member.ensures, w.if-member.true, w.put-longer.ensures)
+        | then-i-lt-TASKS+then-member w ↦ rw (w.across-is, w.ok-is, ← w.member.ensures, w.if-member.true, w.has_room-ok.ensures, w.put.ensures)
         | then-i-lt-TASKS+else-member w ↦ rw (w.across-is, w.ok-is, ← w.member.ensures, w.if-member.false)
         | else-i-lt-TASKS w ↦ rw (
           w.across-is,
@@ -25,9 +22,3 @@ loop-y-preserved c = (
         )
       ]),
 )
-
-pub returns : goal.returns
-unfolding sent_below
-returns c =
-    let e : c.loop-y.y ≡ c.args.number.0 = omega arith in
-    rw (c.with.ensures, c.with_all_across.ensures) (c.loop-y.invariant.1 ∙ rw e)
