@@ -14,7 +14,7 @@ use table::Table;
 use text::Sheet;
 
 // Typed into a buffer from its start on. Gives back how many bytes are typed; the log is as the last
-// delivery left it.
+// delivery left it. Slices and no sheet: they come so from C, by the library's call.
 #[tactic(auto, using(accepted::proofs::Accepted::accepted_sound), unfolding(crate::specs::Printed::printed, text::specs::Sheets::with_typed))]
 pub fn print<'a>(
     table: &'a [u8],
