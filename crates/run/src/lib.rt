@@ -85,8 +85,8 @@ fn to_gate(rules: Rules<'_>, s: &mut State, t: TaskNo, g: GateNo) -> Answer
     Ok(())
 }
 
-// The same for the two senders of a message to a task: a channel is found in the state, which is lent whole
-// to the receiver meanwhile.
+// This and `to_task` differ in where the sender's channel lies. Neither can lend it: the receiver works on
+// the whole state before the channel is emptied.
 fn from_gate(rules: Rules<'_>, s: &mut State, log: &mut [u8], g: GateNo, b: TaskNo) -> Answer
     requires { LinkWithin 16 16 (FromGate g b) }
     ensures answer { result ≡ (delivered_at_task rules.entry.moves.now rules.entry.masks.now rules.entry.gates s.old log.old b.0 (pop_of s.old (FromGate g b))).answer }
