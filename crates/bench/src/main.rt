@@ -45,14 +45,14 @@ fn line_of(rest: &[u8]) -> Option<(Line<'_>, &[u8])>
     ensures { IfSome result (λ p. length p.1.now < length rest.now) }
 {
     let (&[mode], rest) = rest.split_first_chunk::<1>()?;
-    let (&rounds, rest) = rest.split_first_chunk::<4>()?;
-    let (&file, rest) = rest.split_first_chunk::<4>()?;
-    let (&schedule, rest) = rest.split_first_chunk::<4>()?;
-    let (file, rest) = rest.split_at_checked(u32::from_le_bytes(file) as usize)?;
-    let (schedule, rest) = rest.split_at_checked(u32::from_le_bytes(schedule) as usize)?;
+    let (rounds, rest) = rest.split_first_chunk::<4>()?;
+    let (file, rest) = rest.split_first_chunk::<4>()?;
+    let (schedule, rest) = rest.split_first_chunk::<4>()?;
+    let (file, rest) = rest.split_at_checked(reads::four(file) as usize)?;
+    let (schedule, rest) = rest.split_at_checked(reads::four(schedule) as usize)?;
     let line = Line {
         mode: Mode::from(mode),
-        rounds: u32::from_le_bytes(rounds) as usize,
+        rounds: reads::four(rounds) as usize,
         file,
         schedule,
     };

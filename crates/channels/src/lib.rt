@@ -2,9 +2,10 @@
 // a message writes it back.
 #![tactic(auto)]
 
-ghost use Rattle.std.specs.Prelude.{◌≡◌, ℕ, ltb, true, refl};
+ghost use Rattle.std.specs.Prelude.{◌≡◌, ℕ, ltb, true, false, refl};
 ghost use Rattle.channels.specs.Channels.{no_request, is_ready, front_of, empty1, empty3, popped3, put1, put3, ends_ready};
 ghost use Rattle.channels.specs.declared.Message.{Message};
+ghost use Rattle.std.proofs.Common.{rules, tests};
 
 use numbers::GateNo;
 
@@ -75,6 +76,8 @@ pub trait Channel: Copy + Drop {
     ghost empty_has_none: { count empty ≡ 0 };
 
     ghost empty_has_room: { ltb (count empty) ROOM ≡ true };
+
+    ghost full_stays: { (c : Self) (m : Message) → ltb (count c) ROOM ≡ false → put c m ≡ c };
 }
 
 // Two structs with named places, and not one with an array: `delivery_keeps_sound` asks of a state how long
@@ -130,6 +133,8 @@ impl Channel for Channel1 {
     ghost empty_has_none = { refl };
 
     ghost empty_has_room = { refl };
+
+    ghost full_stays = { Prim.search (rules, tests) };
 
     const ROOM: u8 = 1;
 
@@ -190,6 +195,8 @@ impl Channel for Channel3 {
     ghost empty_has_none = { refl };
 
     ghost empty_has_room = { refl };
+
+    ghost full_stays = { Prim.search (rules, tests) };
 
     const ROOM: u8 = 3;
 

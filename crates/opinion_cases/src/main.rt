@@ -49,7 +49,7 @@ fn one(rt: &impl Print, input: &mut impl Read, number: usize) -> io::Result<bool
     if stream::fill(input, head.as_flattened_mut()) < HEAD {
         return Ok(false);
     }
-    let [table, schedule, room] = head.map(|bytes| u32::from_le_bytes(bytes) as usize);
+    let [table, schedule, room] = head.map(|bytes| reads::four(&bytes) as usize);
     if FILE < table || FILE < schedule || LOG < room {
         return Ok(false);
     }

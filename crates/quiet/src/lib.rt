@@ -3,20 +3,23 @@
 
 ghost use Rattle.std.specs.Prelude.{◌≡◌};
 ghost use Rattle.quiet.specs.Quiet.{quiet};
-ghost use Rattle.quiet.specs.Parts.{channels_quiet};
+ghost use Rattle.quiet.specs.Parts.{channels_quiet, task_quiet};
 
 use channels::Channel;
-use state::State;
+use state::{State, Task};
 
 pub fn quiet(s: State) -> bool
     ensures { result ≡ quiet s }
 {
-    let tasks = s
-        .tasks
-        .iter()
-        .all(|p| all_quiet(&p.up) && all_quiet(&p.across));
+    let tasks = s.tasks.iter().all(|p| task_quiet(p));
     let gates = s.gates.iter().all(|k| all_quiet(&k.down));
     tasks & gates
+}
+
+fn task_quiet(p: &Task) -> bool
+    ensures { result ≡ task_quiet p.now }
+{
+    all_quiet(&p.up) && all_quiet(&p.across)
 }
 
 fn all_quiet<C: Channel, const N: usize>(list: &[C; N]) -> bool

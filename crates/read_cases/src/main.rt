@@ -69,10 +69,10 @@ fn case_of(rest: &[u8]) -> Option<(Case<'_>, &[u8])>
     let (&[tag, name], rest) = rest.split_first_chunk::<2>()?;
     let kind = Kind::try_from(tag).ok()?;
     let (name, rest) = rest.split_at_checked(usize::from(name))?;
-    let (&size, rest) = rest.split_first_chunk::<4>()?;
-    let (&length, rest) = rest.split_first_chunk::<4>()?;
-    let size = u32::from_le_bytes(size) as usize;
-    let (unit, rest) = rest.split_at_checked(u32::from_le_bytes(length) as usize)?;
+    let (size, rest) = rest.split_first_chunk::<4>()?;
+    let (length, rest) = rest.split_first_chunk::<4>()?;
+    let size = reads::four(size) as usize;
+    let (unit, rest) = rest.split_at_checked(reads::four(length) as usize)?;
     // Nothing repeated fills no file but the empty one.
     if ROOM < size || (unit.is_empty() && size != 0) {
         return None;

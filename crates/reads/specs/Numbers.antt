@@ -1,4 +1,4 @@
--- A number of four bytes.
+-- A number of four bytes, as the programs of the tests read one.
 use Rattle.std.specs.Prelude.{ℕ, ◌+◌, ◌*◌, List, get_or}
 
 -- the number in the first four bytes of a list, the lowest first; past the end stands 0

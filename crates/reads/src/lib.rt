@@ -10,8 +10,8 @@ pub fn at<T: Copy + Drop>(list: &[T], i: usize, filler: T) -> T
     list.get(i).copied().unwrap_or(filler)
 }
 
-// The number in the first four bytes, the lowest first; past the end stands 0. A must-fail edit speaks
-// of it.
+// The number in the first four bytes, the lowest first; past the end stands 0. The programs of the tests
+// and the measurement read their lengths by it.
 pub fn four(bytes: &[u8]) -> u32
     ensures { result ≡ four_of bytes.now }
 {

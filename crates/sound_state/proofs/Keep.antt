@@ -31,10 +31,15 @@ empty_sound present fits c h =
       le-leb 0 (room present 1) (omega arith),
     )
 
-pub silent_sound : (present : Bool) (tasks : ℕ) (fits : ℕ → Message → Bool) (channels : List Channel1) → is_silent channels ≡ true
+pub silent_sound : (present fits : ℕ → Bool) (l : List Channel1) → is_silent l ≡ true
+    → all_below 16 (λ (b : ℕ). one_sound (present b) (fits b) (get_or l b empty1)) ≡ true
+silent_sound present fits l = below_by _ _ (λ (b : ℕ). empty_sound (present b) (fits b) (get_or l b empty1))
+
+-- the same of the channels to the tasks
+pub silent_channels : (present : Bool) (tasks : ℕ) (fits : ℕ → Message → Bool) (channels : List Channel1) → is_silent channels ≡ true
     → channels_sound present tasks fits channels ≡ true
-silent_sound present tasks fits channels =
-    below_by _ _ (λ (b : ℕ). let c = get_or channels b empty1 in empty_sound (present && ltb b tasks) (fits b c.first) c)
+silent_channels present tasks fits channels =
+    silent_sound (λ (b : ℕ). present && ltb b tasks) (λ (b : ℕ). fits b (get_or channels b empty1).first) channels
 
 ready_place : (used : Bool) (g : ℕ) (m : Message) → is_ready m ≡ true → place used (up_fits g m) (is_ready m) ≡ true
 ready_place true g Ready h = refl

@@ -189,7 +189,7 @@ fn up_fits(gate: GateNo, message: Message) -> bool
 }
 
 // The channels to the tasks, where `fits` says what may be sent to each.
-#[tactic(auto, using(crate::proofs::Keep::silent_sound))]
+#[tactic(auto, using(crate::proofs::Keep::silent_channels))]
 fn channels_sound<F: Fn(TaskNo, Message) -> bool>(
     present: bool,
     tasks: u8,

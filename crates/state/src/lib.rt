@@ -262,13 +262,19 @@ impl State {
     {
         let front = match link {
             Link::ToGate(t, g) if (t.0 as usize) < Table::TASKS => {
-                pop_at(&mut self.tasks[t.0 as usize].up, g.0)
+                let popped = self.tasks[t.0 as usize].pop_up(g);
+                self.tasks[t.0 as usize] = popped.after;
+                popped.front
             }
             Link::FromGate(g, t) if (g.0 as usize) < Table::GATES => {
-                pop_at(&mut self.gates[g.0 as usize].down, t.0)
+                let popped = self.gates[g.0 as usize].pop_down(t);
+                self.gates[g.0 as usize] = popped.after;
+                popped.front
             }
             Link::ToTask(t, b) if (t.0 as usize) < Table::TASKS => {
-                pop_at(&mut self.tasks[t.0 as usize].across, b.0)
+                let popped = self.tasks[t.0 as usize].pop_across(b);
+                self.tasks[t.0 as usize] = popped.after;
+                popped.front
             }
             _ => None,
         };
@@ -281,13 +287,19 @@ impl State {
     {
         let room = match link {
             Link::ToGate(t, g) if (t.0 as usize) < Table::TASKS => {
-                put_at(&mut self.tasks[t.0 as usize].up, g.0, message)
+                let put = self.tasks[t.0 as usize].put_up(g, message);
+                self.tasks[t.0 as usize] = put.after;
+                put.room
             }
             Link::FromGate(g, t) if (g.0 as usize) < Table::GATES => {
-                put_at(&mut self.gates[g.0 as usize].down, t.0, message)
+                let put = self.gates[g.0 as usize].put_down(t, message);
+                self.gates[g.0 as usize] = put.after;
+                put.room
             }
             Link::ToTask(t, b) if (t.0 as usize) < Table::TASKS => {
-                put_at(&mut self.tasks[t.0 as usize].across, b.0, message)
+                let put = self.tasks[t.0 as usize].put_across(b, message);
+                self.tasks[t.0 as usize] = put.after;
+                put.room
             }
             _ => true,
         };
