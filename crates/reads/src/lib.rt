@@ -11,7 +11,7 @@ pub fn at<T: Copy + Drop>(list: &[T], i: usize, filler: T) -> T
 }
 
 // The number in the first four bytes, the lowest first; past the end stands 0. The programs of the tests
-// and the measurement read their lengths by it.
+// and the measurement read such numbers by it.
 pub fn four(bytes: &[u8]) -> u32
     ensures { result ≡ four_of bytes.now }
 {

@@ -255,6 +255,7 @@ impl Gate {
     }
 }
 
+// Each arm goes by a method of its own party, which lies in a list of its own: so there are three.
 impl State {
     // The oldest message of a channel, and the state without it.
     pub fn pop(mut self, link: Link) -> Popped<State>
